@@ -1,0 +1,9 @@
+pub mod Bytes
+pub mod Fit
+pub mod Formats
+pub mod Lists
+pub mod Masks
+pub mod Options
+pub mod Put
+pub mod Refusals
+pub mod Sizes

@@ -1,0 +1,67 @@
+// Why a call is refused (the Rust's error.rs; its messages are numbers here).
+ghost use mathlib.Core.Path.{_≡_};
+ghost use Rattle.leaves.specs.Refusals.{numberOf, checkNumber};
+
+// The rows of document 01's table, in their order.
+pub enum Refusal {
+    ZeroDimension,
+    DimensionTooLarge,
+    PaletteMissing,
+    PaletteNotQuads,
+    SeveralModes,
+    MaskDepth,
+    MaskAboveDepth,
+    MaskNotOneRun,
+    MaskOverlap,
+    NoColourMask,
+    MaskSource,
+    PlaneTooShort,
+    StrideTooShort,
+    FileTooLarge,
+    BufferTooShort,
+    StreamOverBudget,
+}
+
+impl Refusal {
+    // The table's number.
+    pub fn number(self) -> u32
+        ensures { λ r. ⌜ r ≡ numberOf self ⌝ }
+    {
+        match self {
+            Refusal::ZeroDimension => 1,
+            Refusal::DimensionTooLarge => 2,
+            Refusal::PaletteMissing => 3,
+            Refusal::PaletteNotQuads => 4,
+            Refusal::SeveralModes => 5,
+            Refusal::MaskDepth => 6,
+            Refusal::MaskAboveDepth => 7,
+            Refusal::MaskNotOneRun => 8,
+            Refusal::MaskOverlap => 9,
+            Refusal::NoColourMask => 10,
+            Refusal::MaskSource => 11,
+            Refusal::PlaneTooShort => 12,
+            Refusal::StrideTooShort => 13,
+            Refusal::FileTooLarge => 14,
+            Refusal::BufferTooShort => 15,
+            Refusal::StreamOverBudget => 16,
+        }
+    }
+}
+
+// The answer of a check.
+pub enum Check {
+    Passed,
+    Refused(Refusal),
+}
+
+impl Check {
+    // 0, or the refusal's number.
+    pub fn number(self) -> u32
+        ensures { λ r. ⌜ r ≡ checkNumber self ⌝ }
+    {
+        match self {
+            Check::Passed => 0,
+            Check::Refused(why) => why.number(),
+        }
+    }
+}

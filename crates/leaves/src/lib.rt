@@ -1,0 +1,11 @@
+// The lowest crate of the BMP writer: constants, formats, options, row stride, table counts, the checks
+// over numbers, the mask check, `quantise`, and writes into a lent buffer. Modules follow the files and
+// sections of the Rust encoder.
+pub mod bitfields;
+pub mod buffer;
+pub mod checks;
+pub mod encoder;
+pub mod error;
+pub mod image;
+pub mod options;
+pub mod types;
