@@ -11,7 +11,7 @@ use Rattle.leaves.specs.declared.error.Refusal.the-variants.{ZeroDimensi
 use Rattle.leaves.specs.declared.error.Check.{Check}
 use Rattle.leaves.specs.declared.error.Check.the-variants.{Passed, Refused}
 use Rattle.leaves.specs.Lists.{cat}
-use Rattle.leaves.specs.Refusals.{numberOf, checkNumber, firstOf, firstNumber}
+use Rattle.leaves.specs.Refusals.{checkNumber, firstOf}
 
 -- ---- the number determines the check
 

@@ -1,6 +1,7 @@
 pub mod BitLaws
 pub mod FirstOf
 pub mod Fitting
+pub mod ListLaws
 pub mod Overlap
 pub mod Puts
 pub mod Runs

@@ -2,7 +2,7 @@
 use mathlib.Core.Path.{_≡_, refl, sym, ap, ap₂, _∙_, subst}
 use mathlib.Core.Bool.{Bool, true, false, true≢false}
 use Prim.Native.Nat.{ℕ, zero, suc, _+_, _-_, _*_, _/_, _%_, _^_, _≤_, _<_, min}
-use native.Mathlib.Nat.{add-zero, suc-add, zero-add, mul-one, mul-assoc, mul-comm, zero-mul, div-one, div-div-eq-div-mul, pow-succ', mod-eq-of-lt, mul-le-mul-right, not-suc-le-zero, lt-of-lt-of-le}
+use native.Mathlib.Nat.{add-zero, suc-add, zero-add, mul-one, mul-assoc, mul-comm, zero-mul, div-one, div-div-eq-div-mul, pow-succ', mod-eq-of-lt, mul-le-mul-right, not-suc-le-zero}
 use native.Mathlib.Numerals.{add-one}
 use native.Mathlib.Omega.{arith}
 use borrow.Author.Tests.{ltb-true, ltb-false, eqb-true, eqb-false, eq-eqb, ne-eqb}
@@ -10,7 +10,7 @@ use lib.Dec.{ltb, eqb}
 use lib.Arith.{bin-ind, lt-one}
 use lib.Pow.{pow-pos, pow-add, pow-mono, pow-lt, shl-lt, shl-shr, shr-le, ones-lt}
 use lib.Bits.{bitAnd, and-step, and-self, and-comm, and-zero-r, and-shifted, shifted-even, shifted-half}
-use lib.Count.{onesIn, ones, ones-step, ones-cat, ones-ones, ones-le, leadingZeros, leading-unique, leading-length, trailingZeros, trailing-le, under}
+use lib.Count.{onesIn, ones, ones-step, ones-cat, ones-ones, ones-le, leadingZeros, leading-unique, leading-length, trailingZeros, under}
 use Rattle.leaves.specs.Masks.{run, OneRun, count, lowest, isOneRun}
 
 -- ---- the counts of a run

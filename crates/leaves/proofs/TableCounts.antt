@@ -1,12 +1,12 @@
 -- Laws of the colour table's counts.
-use mathlib.Core.Path.{_≡_, refl, ap, _∙_}
+use mathlib.Core.Path.{_≡_, refl}
 use mathlib.Core.Bool.{Bool, true, false, cond, _||_, false≢true}
-use Prim.Native.Nat.{ℕ, _^_, _≤_, _<_, min, max}
+use Prim.Native.Nat.{ℕ, _^_, _≤_, _<_}
 use native.Mathlib.Omega.{arith}
-use borrow.Author.Tests.{eqb-true, lt-ltb, le-ltb}
+use borrow.Author.Tests.{eqb-true}
 use lib.Dec.{eqb, lit≤}
 use lib.Pow.{pow-mono}
-use Rattle.leaves.specs.Sizes.{hasTable, paletteEntryCount, writtenPaletteEntries, clrUsed}
+use Rattle.leaves.specs.Sizes.{hasTable, paletteEntryCount, writtenPaletteEntries}
 
 -- a table has at most 256 entries
 pub entries-le : (depth : ℕ) → paletteEntryCount depth ≤ 256

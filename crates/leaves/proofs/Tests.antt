@@ -3,11 +3,11 @@ use mathlib.Core.Path.{_≡_, refl}
 use mathlib.Core.Bool.{Bool, true, false, not, cond, _&&_, _||_}
 use Prim.Native.Nat.{ℕ}
 use borrow.Author.Needs.{needs}
+use borrow.Author.Tests.{eq-eqb, ne-eqb, lt-ltb, le-ltb, le-leb, lt-leb, not-true, not-false}
 use Rattle.leaves.specs.declared.error.Refusal.{Refusal}
 use Rattle.leaves.specs.declared.error.Check.{Check}
-use Rattle.leaves.specs.declared.error.Check.the-variants.{Passed, Refused}
+use Rattle.leaves.specs.declared.error.Check.the-variants.{Refused}
 use Rattle.leaves.specs.Refusals.{numberOf, checkNumber}
-use borrow.Author.Tests.{eq-eqb, ne-eqb, lt-ltb, le-ltb, le-leb, lt-leb, not-true, not-false}
 
 -- a row that applies, and one that does not
 pub applies : (n : ℕ) (t : Bool) (why : Refusal) (rest : Check) → t ≡ true → n ≡ numberOf why → n ≡ checkNumber (cond t (Refused why) rest)

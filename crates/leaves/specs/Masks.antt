@@ -1,15 +1,15 @@
 -- Channel masks: one run, the mask check (6 to 10), and what a layout takes from a mask.
 use mathlib.Core.Path.{_≡_}
-use Prim.Native.Nat.{ℕ, zero, suc, _+_, _-_, _*_, _^_, _≤_}
 use mathlib.Core.Bool.{Bool, true, false, not, cond, _&&_, _||_}
 use mathlib.Core.List.{List, [], _∷_, _++_}
-use lib.Dec.{ltb, leb, eqb}
+use Prim.Native.Nat.{ℕ, zero, suc, _+_, _-_, _*_, _^_, _≤_}
+use lib.Dec.{leb, eqb}
 use lib.ListN.{getD}
 use lib.Bits.{bitAnd, bitOr}
 use lib.Count.{onesIn, trailingZeros}
-use Rattle.leaves.specs.Lists.{cat}
 use Rattle.leaves.specs.declared.error.Refusal.{Refusal}
 use Rattle.leaves.specs.declared.error.Refusal.the-variants.{MaskDepth, MaskAboveDepth, MaskNotOneRun, MaskOverlap, NoColourMask}
+use Rattle.leaves.specs.Lists.{cat}
 
 -- the number whose ones are n, from bit s up
 abbrev pub run : ℕ → ℕ → ℕ

@@ -1,16 +1,13 @@
-use native.Mathlib.Omega.{arith}
 use mathlib.Core.Path.{sym, ap, _∙_}
 use Prim.Native.Nat.{ℕ, _/_, _^_}
+use native.Mathlib.Omega.{arith}
+use borrow.Author.Needs.{needs}
 use lib.Bits.{bitAnd}
 use lib.Count.{trailingZeros}
 use lib.Dec.{eqb}
 use Rattle.leaves.proofs.Runs.{is-one-run, contiguous, ends-within}
-use borrow.Author.Needs.{needs}
 use Rattle.leaves.proofs.bitfields.is_contiguous.Statement.{statement}
 use Rattle.leaves.proofs.bitfields.is_contiguous.Tie as tie
-use Rattle.leaves.proofs.bitfields.is_contiguous.Reads as reads
-use Rattle.leaves.proofs.bitfields.is_contiguous.Lts as lts
-use Rattle.std.proofs.num.wrapping_add_u32.Reads as wrapping-add-u32-reads
 
 returns : tie.Need-returns
 returns c = sym (is-one-run (c .before .args .mask) (c .before .fits .mask .fits) (record { from = 0; count = 0; is = c .if1 .taken }))

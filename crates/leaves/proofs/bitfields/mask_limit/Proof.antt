@@ -3,8 +3,6 @@ use mathlib.Core.Logic.{_⊎_, inl, inr}
 use Prim.Native.Nat.{ℕ, _+_, _^_}
 use Rattle.leaves.proofs.bitfields.mask_limit.Statement.{statement}
 use Rattle.leaves.proofs.bitfields.mask_limit.Tie as tie
-use Rattle.leaves.proofs.bitfields.mask_limit.Reads as reads
-use Rattle.leaves.proofs.bitfields.mask_limit.Lts as lts
 
 sixteen : (d : ℕ) → (d ≡ 16) ⊎ (d ≡ 32) → (d ≡ 32 → ⊥) → 65535 + 1 ≡ 2 ^ d
 sixteen d (inl e) n = rw e

@@ -1,13 +1,11 @@
-use native.Mathlib.Omega.{arith}
 use mathlib.Core.Path.{_≡_, refl, sym, ap, _∙_}
-use Prim.Native.Nat.{ℕ, _+_, _-_, _≤_, _<_, _^_}
+use Prim.Native.Nat.{ℕ, _-_, _<_, _^_}
+use native.Mathlib.Omega.{arith}
 use lib.Count.{leadingZeros, trailingZeros, leading-le}
 use Rattle.leaves.specs.Masks.{ShiftLen, count, lowest}
 use Rattle.leaves.proofs.Runs.{count-zero, ends-within, len-run}
 use Rattle.leaves.proofs.bitfields.mask_shift_len.Statement.{statement}
 use Rattle.leaves.proofs.bitfields.mask_shift_len.Tie as tie
-use Rattle.leaves.proofs.bitfields.mask_shift_len.Reads as reads
-use Rattle.leaves.proofs.bitfields.mask_shift_len.Lts as lts
 
 zero-mask : (m : ℕ) → m ≡ 0 → ShiftLen m 0 0
 zero-mask m z =

@@ -1,18 +1,16 @@
-use native.Mathlib.Omega.{arith}
 use mathlib.Core.Path.{_≡_, ap}
 use Prim.Native.Nat.{ℕ, _+_, _-_, _*_, _/_, _%_, _^_, _≤_, _<_}
+use native.Mathlib.Omega.{arith}
 use native.Mathlib.Nat.{lt-of-lt-of-le}
 use borrow.Author.Tests.{le-leb, lt-leb}
+use borrow.Author.Needs.{needs}
 use lib.Pow.{shl-exact, pow-mono}
 use mir.Val.{Fits}
 use mir.Syntax.{w32}
 use Rattle.leaves.specs.Fit.{fit}
 use Rattle.leaves.proofs.Fitting.{fit-lt}
-use borrow.Author.Needs.{needs}
 use Rattle.leaves.proofs.bitfields.quantise.Statement.{statement}
 use Rattle.leaves.proofs.bitfields.quantise.Tie as tie
-use Rattle.leaves.proofs.bitfields.quantise.Reads as reads
-use Rattle.leaves.proofs.bitfields.quantise.Lts as lts
 
 -- the three cases, as the code computes them
 narrow : (n s : ℕ) → n ≤ 8 → s / 2 ^ (8 - n) ≡ fit n s

@@ -1,32 +1,27 @@
-use borrow.Author.Tests.{eqb-true, not-true, not-false, ne-eqb, eq-eqb}
+use mathlib.Core.Bool.{cond, true, false, not}
+use mathlib.Core.Path.{_≡_, refl, sym, _∙_}
+use mathlib.Core.Logic.{_⊎_, inl, inr, ⊎-elim}
+use mathlib.Core.List.{List, [], _∷_}
+use Prim.Native.Nat.{ℕ, _+_, _-_, _≤_, _<_}
 use native.Mathlib.Numerals.{add-one}
 use native.Mathlib.Nat.{le-antisymm}
+use native.Mathlib.Omega.{arith}
+use borrow.Author.Tests.{eqb-true, not-true, not-false, eq-eqb}
+use borrow.Author.Needs.{needs}
 use lib.Bits.{bitOr}
 use lib.Dec.{eqb}
-use Rattle.leaves.specs.Masks.{noColourMask}
-use Rattle.leaves.specs.declared.error.Refusal.the-variants.{NoColourMask}
-use mathlib.Core.Bool.{cond}
-use native.Mathlib.Omega.{arith}
-use mathlib.Core.Path.{_≡_, refl, sym, ap, _∙_}
-use mathlib.Core.Logic.{_⊎_, inl, inr, ⊎-elim}
-use mathlib.Core.Bool.{true, false, not}
-use mathlib.Core.List.{List, [], _∷_}
-use Prim.Native.Nat.{ℕ, zero, suc, _+_, _-_, _≤_, _<_}
-use borrow.Author.Needs.{needs}
 use lib.ListN.{getD}
+use Rattle.leaves.specs.declared.error.Refusal.the-variants.{NoColourMask}
 use Rattle.leaves.specs.declared.error.Refusal.{Refusal}
 use Rattle.leaves.specs.declared.error.Check.{Check}
 use Rattle.leaves.specs.declared.error.Check.the-variants.{Passed, Refused}
+use Rattle.leaves.specs.Masks.{noColourMask, maskDepth, unionOf, maskRows, bitfieldsRows}
 use Rattle.leaves.specs.Lists.{cat}
 use Rattle.leaves.specs.Refusals.{numberOf, checkNumber, firstOf, firstNumber}
-use Rattle.leaves.specs.Masks.{maskDepth, unionOf, maskRows, bitfieldsRows}
 use Rattle.leaves.proofs.FirstOf.{check-determined, first-pass, first-stop, cat-stop, cat-pass}
 use Rattle.leaves.proofs.Tests.{tests}
 use Rattle.leaves.proofs.bitfields.validate.Statement.{statement}
 use Rattle.leaves.proofs.bitfields.validate.Tie as tie
-use Rattle.leaves.proofs.bitfields.validate.Reads as reads
-use Rattle.leaves.proofs.bitfields.validate.Lts as lts
-use Rattle.leaves.proofs.bitfields.validate_mask.Reads as validate-mask-reads
 
 other-depth : (d : ℕ) (masks : List ℕ) → (d ≡ 16 → ⊥) → not (eqb d 32) ≡ true → 6 ≡ firstNumber (bitfieldsRows d masks)
 unfolding bitfieldsRows
@@ -94,7 +89,7 @@ unfolding unionOf cat
 loop-holds c = (⊎-elim (λ w. inr (eqb-true (c .before .args .bpp) 32 (not-false (eqb (c .before .args .bpp) 32) (w .1 .left)))) (λ w. inl (w .left)) (c .if1 .came), omega arith, refl, refl)
 
 validate-mask-requires : tie.Need-validate-mask-requires Inv-loop μ-loop
-validate-mask-requires c κs = (c .before .loop .inv .0, (c .loop-test .taken, c .before .loop .inv .2))
+validate-mask-requires c κs = (c .before .loop .inv .0, (omega arith, c .before .loop .inv .2))
 
 enum-known-check : tie.Need-enum-known-check Inv-loop μ-loop
 enum-known-check c = search needs

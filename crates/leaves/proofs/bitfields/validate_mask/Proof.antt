@@ -1,9 +1,10 @@
-use native.Mathlib.Omega.{arith}
 use mathlib.Core.Path.{_≡_, sym, ap, _∙_}
 use mathlib.Core.Bool.{true, false, not}
 use mathlib.Core.List.{List}
 use Prim.Native.Nat.{ℕ, _+_, _^_, _≤_, _<_}
+use native.Mathlib.Omega.{arith}
 use borrow.Author.Tests.{le-leb, lt-leb, eq-eqb, ne-eqb, not-true, not-false}
+use borrow.Author.Needs.{needs}
 use lib.Bits.{bitAnd}
 use lib.Dec.{eqb}
 use lib.ListN.{getD}
@@ -11,13 +12,8 @@ use Rattle.leaves.specs.Refusals.{firstNumber}
 use Rattle.leaves.specs.Masks.{isOneRun, sharesBit, unionOf, maskRows}
 use Rattle.leaves.proofs.Overlap.{shares-union}
 use Rattle.leaves.proofs.Tests.{tests}
-use borrow.Author.Needs.{needs}
 use Rattle.leaves.proofs.bitfields.validate_mask.Statement.{statement}
 use Rattle.leaves.proofs.bitfields.validate_mask.Tie as tie
-use Rattle.leaves.proofs.bitfields.validate_mask.Reads as reads
-use Rattle.leaves.proofs.bitfields.validate_mask.Lts as lts
-use Rattle.leaves.proofs.bitfields.is_contiguous.Reads as is-contiguous-reads
-use Rattle.leaves.proofs.bitfields.mask_limit.Reads as mask-limit-reads
 
 -- the rows of the mask at place k, by what the tests say
 module _ (d : ℕ) (masks : List ℕ) (k : ℕ) where

@@ -1,18 +1,14 @@
-use mathlib.Core.Path.{refl}
+use mathlib.Core.Path.{refl, _≡_}
 use mathlib.Core.Bool.{Bool, true, false}
-use mir.Val.{boolByte}
-use borrow.Author.Tests.{lt-ltb, le-ltb}
-use Rattle.leaves.proofs.Tests.{tests}
-use Rattle.leaves.specs.Refusals.{one, severalModes, modeRows}
+use Prim.Native.Nat.{_+_, _-_, _≤_, _<_}
 use native.Mathlib.Omega.{arith}
-use lib.ListN.{length, length-set, getD}
-use Prim.Native.Nat.{ℕ, _+_, _-_, _*_, _/_, _%_, _≤_, _<_}
-use mathlib.Core.Path.{_≡_}
+use borrow.Author.Tests.{lt-ltb, le-ltb}
 use borrow.Author.Needs.{needs}
+use mir.Val.{boolByte}
+use Rattle.leaves.specs.Refusals.{one, severalModes, modeRows}
+use Rattle.leaves.proofs.Tests.{tests}
 use Rattle.leaves.proofs.checks.check_modes.Statement.{statement}
 use Rattle.leaves.proofs.checks.check_modes.Tie as tie
-use Rattle.leaves.proofs.checks.check_modes.Reads as reads
-use Rattle.leaves.proofs.checks.check_modes.Lts as lts
 
 bit : (b : Bool) → boolByte b ≤ 1
 bit true = omega arith

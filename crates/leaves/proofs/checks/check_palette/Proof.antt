@@ -1,10 +1,7 @@
-use borrow.Author.Needs.{needs}
 use Rattle.leaves.specs.Refusals.{paletteRows}
 use Rattle.leaves.proofs.Tests.{tests}
 use Rattle.leaves.proofs.checks.check_palette.Statement.{statement}
 use Rattle.leaves.proofs.checks.check_palette.Tie as tie
-use Rattle.leaves.proofs.checks.check_palette.Reads as reads
-use Rattle.leaves.proofs.checks.check_palette.Lts as lts
 
 returns : tie.Need-returns
 unfolding paletteRows

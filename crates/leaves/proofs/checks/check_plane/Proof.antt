@@ -1,6 +1,5 @@
 use borrow.Author.Needs.{needs}
 use Rattle.leaves.specs.Refusals.{planeRows}
-use Rattle.leaves.proofs.Tests.{tests}
 use Rattle.leaves.proofs.checks.check_plane.Statement.{statement}
 use Rattle.leaves.proofs.checks.check_plane.Tie as tie
 

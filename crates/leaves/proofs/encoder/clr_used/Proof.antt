@@ -1,17 +1,11 @@
-use borrow.Author.Tests.{lt-ltb, le-ltb}
-use Rattle.leaves.proofs.TableCounts.{entries-le}
-use Rattle.leaves.proofs.Tests.{tests}
-use Rattle.leaves.specs.Sizes.{clrUsed, paletteEntryCount}
+use Prim.Native.Nat.{_-_}
 use native.Mathlib.Omega.{arith}
-use lib.ListN.{length, length-set, getD}
-use Prim.Native.Nat.{ℕ, _+_, _-_, _*_, _/_, _%_, _≤_, _<_}
-use mathlib.Core.Path.{_≡_}
+use borrow.Author.Tests.{lt-ltb, le-ltb}
 use borrow.Author.Needs.{needs}
+use Rattle.leaves.specs.Sizes.{clrUsed, paletteEntryCount}
+use Rattle.leaves.proofs.TableCounts.{entries-le}
 use Rattle.leaves.proofs.encoder.clr_used.Statement.{statement}
 use Rattle.leaves.proofs.encoder.clr_used.Tie as tie
-use Rattle.leaves.proofs.encoder.clr_used.Reads as reads
-use Rattle.leaves.proofs.encoder.clr_used.Lts as lts
-use Rattle.leaves.proofs.encoder.palette_entry_count.Reads as palette-entry-count-reads
 
 palette-entry-count-requires : tie.Need-palette-entry-count-requires
 palette-entry-count-requires c κs = search needs

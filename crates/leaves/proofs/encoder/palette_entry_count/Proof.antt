@@ -1,14 +1,8 @@
-use Rattle.leaves.proofs.Tests.{tests}
+use Prim.Native.Nat.{_-_}
 use Rattle.leaves.specs.Sizes.{paletteEntryCount}
-use native.Mathlib.Omega.{arith}
-use lib.ListN.{length, length-set, getD}
-use Prim.Native.Nat.{ℕ, _+_, _-_, _*_, _/_, _%_, _≤_, _<_}
-use mathlib.Core.Path.{_≡_}
-use borrow.Author.Needs.{needs}
+use Rattle.leaves.proofs.Tests.{tests}
 use Rattle.leaves.proofs.encoder.palette_entry_count.Statement.{statement}
 use Rattle.leaves.proofs.encoder.palette_entry_count.Tie as tie
-use Rattle.leaves.proofs.encoder.palette_entry_count.Reads as reads
-use Rattle.leaves.proofs.encoder.palette_entry_count.Lts as lts
 
 returns : tie.Need-returns
 unfolding paletteEntryCount

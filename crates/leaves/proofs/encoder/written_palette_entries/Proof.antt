@@ -1,16 +1,10 @@
 use mathlib.Core.Logic.{⊎-elim}
-use Rattle.leaves.proofs.Tests.{tests}
-use Rattle.leaves.specs.Sizes.{writtenPaletteEntries}
+use Prim.Native.Nat.{_-_}
 use native.Mathlib.Omega.{arith}
-use lib.ListN.{length, length-set, getD}
-use Prim.Native.Nat.{ℕ, _+_, _-_, _*_, _/_, _%_, _≤_, _<_}
-use mathlib.Core.Path.{_≡_}
 use borrow.Author.Needs.{needs}
+use Rattle.leaves.specs.Sizes.{writtenPaletteEntries}
 use Rattle.leaves.proofs.encoder.written_palette_entries.Statement.{statement}
 use Rattle.leaves.proofs.encoder.written_palette_entries.Tie as tie
-use Rattle.leaves.proofs.encoder.written_palette_entries.Reads as reads
-use Rattle.leaves.proofs.encoder.written_palette_entries.Lts as lts
-use Rattle.leaves.proofs.encoder.palette_entry_count.Reads as palette-entry-count-reads
 
 palette-entry-count-requires : tie.Need-palette-entry-count-requires
 palette-entry-count-requires c κs = search needs

@@ -1,17 +1,11 @@
 use mathlib.Core.Path.{refl}
-use Prim.Native.Nat.{_^_}
+use Prim.Native.Nat.{_^_, ℕ, _-_, _*_, _<_}
 use native.Mathlib.Nat.{lt-of-le-of-lt, le-of-lt, mul-le-mul-left, mul-lt-mul-of-pos-right}
+use native.Mathlib.Omega.{arith}
 use lib.Dec.{lit<}
 use Rattle.leaves.specs.Sizes.{rowStride}
-use native.Mathlib.Omega.{arith}
-use lib.ListN.{length, length-set, getD}
-use Prim.Native.Nat.{ℕ, _+_, _-_, _*_, _/_, _%_, _≤_, _<_}
-use mathlib.Core.Path.{_≡_}
-use borrow.Author.Needs.{needs}
 use Rattle.leaves.proofs.types.row_stride.Statement.{statement}
 use Rattle.leaves.proofs.types.row_stride.Tie as tie
-use Rattle.leaves.proofs.types.row_stride.Reads as reads
-use Rattle.leaves.proofs.types.row_stride.Lts as lts
 
 -- a row's bits fit 48 bits
 bits : (width depth : ℕ) → width < 2 ^ 32 → depth < 2 ^ 16 → width * depth < 2 ^ 48

@@ -1,13 +1,7 @@
-use native.Mathlib.Omega.{arith}
-use lib.ListN.{length, length-set, getD}
-use Prim.Native.Nat.{ℕ, _+_, _-_, _*_, _/_, _%_, _≤_, _<_}
-use mathlib.Core.Path.{_≡_}
+use Prim.Native.Nat.{_-_}
 use borrow.Author.Needs.{needs}
 use Rattle.leaves.proofs.bitfields.BmpBitfields.compression.Statement.{statement}
 use Rattle.leaves.proofs.bitfields.BmpBitfields.compression.Tie as tie
-use Rattle.leaves.proofs.bitfields.BmpBitfields.compression.Reads as reads
-use Rattle.leaves.proofs.bitfields.BmpBitfields.compression.Lts as lts
-use Rattle.leaves.proofs.bitfields.BmpBitfields.has_alpha.Reads as has-alpha-reads
 
 has-alpha-requires : tie.Need-has-alpha-requires
 has-alpha-requires c κs = search needs
