@@ -1,0 +1,11 @@
+pub mod AllRows
+pub mod DecodeExamples
+pub mod Decoding
+pub mod MaskCells
+pub mod PackLaws
+pub mod RleBlocks
+pub mod RleBytes
+pub mod Scans
+pub mod StreamPlaces
+pub mod Streams
+pub mod Unpacking

@@ -1,0 +1,41 @@
+use native.Mathlib.Omega.{arith}
+use borrow.Author.Needs.{needs}
+use Rattle.rows.proofs.rle.data_bytes.Statement.{statement}
+use Rattle.rows.proofs.rle.data_bytes.Tie as tie
+
+mul-result : tie.Need-mul-result
+mul-result c = search needs
+
+add-result : tie.Need-add-result
+add-result c = search needs
+
+mul-result-2 : tie.Need-mul-result-2
+mul-result-2 c = search needs
+
+returns : tie.Need-returns
+returns c = (rw (c .if1 .taken), omega arith)
+
+mul-result-3 : tie.Need-mul-result-3
+mul-result-3 c = search needs
+
+add-result-2 : tie.Need-add-result-2
+add-result-2 c = search needs
+
+mul-result-4 : tie.Need-mul-result-4
+mul-result-4 c = search needs
+
+returns-2 : tie.Need-returns-2
+returns-2 c = (rw (c .if1 .left), omega arith)
+
+pub data-bytes-spec : {M : Type 1} → statement M
+data-bytes-spec =
+    tie.close
+    (tie.spec
+    mul-result
+    add-result
+    mul-result-2
+    returns
+    mul-result-3
+    add-result-2
+    mul-result-4
+    returns-2)

@@ -1,0 +1,155 @@
+use mathlib.Core.Path.{_≡_, refl, sym, _∙_, ap}
+use mathlib.Core.Logic.{⊎-elim}
+use Prim.Native.Nat.{_+_, _-_, _≤_}
+use native.Mathlib.Omega.{arith}
+use lib.ListN.{length, drop}
+use Rattle.leaves.specs.Put.{put}
+use Rattle.rows.specs.RleCodes.{depthOf, cells, codes, rowCodes}
+use Rattle.rows.proofs.RleBlocks.{depth-le}
+use Rattle.rows.proofs.RleBytes as Bytes
+use Rattle.rows.proofs.RleBlocks as Codes
+use Rattle.rows.proofs.Scans as Laws
+use Rattle.leaves.proofs.Puts as Puts
+use Rattle.rows.proofs.rle.encode_rle_row.Statement.{statement}
+use Rattle.rows.proofs.rle.encode_rle_row.Tie as tie
+
+abbrev Inv-loop2 : tie.InvT-loop2
+Inv-loop2 row four buf at o i v count₀ count = Laws.Running (depthOf four) row i count
+
+abbrev μ-loop2 : tie.MeasureT-loop2
+μ-loop2 row four buf at o i v count₀ count = length row - count
+
+abbrev Inv-loop : tie.InvT-loop
+Inv-loop row four buf₀ at o₀ i₀ buf o i =
+    (i ≤ length row)
+    × (length buf ≡ length buf₀)
+    × (o + length (codes (depthOf four) 0 (drop i (cells (depthOf four) row))) ≡ at + length (rowCodes (depthOf four) row))
+    × (put buf o (codes (depthOf four) 0 (drop i (cells (depthOf four) row))) ≡ put buf₀ at (rowCodes (depthOf four) row))
+
+abbrev μ-loop : tie.MeasureT-loop
+μ-loop row four buf₀ at o₀ i₀ buf o i = length row - i
+
+loop-holds : tie.Need-loop-holds Inv-loop2 μ-loop2 Inv-loop μ-loop
+unfolding rowCodes
+loop-holds c = (omega arith, refl, refl, refl)
+
+cell-requires : tie.Need-cell-requires Inv-loop2 μ-loop2 Inv-loop μ-loop
+cell-requires c κs = omega arith
+
+loop2-holds : tie.Need-loop2-holds Inv-loop2 μ-loop2 Inv-loop μ-loop
+loop2-holds c = Laws.run-start _ _ _ (omega arith)
+
+sub-if1 : tie.Need-sub-if1 Inv-loop2 μ-loop2 Inv-loop μ-loop
+sub-if1 c = omega arith
+
+add-cell : tie.Need-add-cell Inv-loop2 μ-loop2 Inv-loop μ-loop
+add-cell c = omega arith
+
+cell-requires-2 : tie.Need-cell-requires-2 Inv-loop2 μ-loop2 Inv-loop μ-loop
+cell-requires-2 c κs = omega arith
+
+add-count : tie.Need-add-count Inv-loop2 μ-loop2 Inv-loop μ-loop
+add-count c = omega arith
+
+loop2-less : tie.Need-loop2-less Inv-loop2 μ-loop2 Inv-loop μ-loop
+loop2-less c = omega arith
+
+loop2-again : tie.Need-loop2-again Inv-loop2 μ-loop2 Inv-loop μ-loop
+loop2-again c =
+    let a = c .before .before .before .before .before .before .before .before .before .before .args in
+    let i = c .before .before .before .before .before .before .before .loop .i in
+    let l = c .before .before .before .before .loop2 in
+    Laws.run-on (depthOf (a .four)) (a .row .now) i (l .count) (l .inv) (omega arith) _ _ (c .before .before .before .before .before .cell .ensures .0) (c .before .cell2 .ensures .0) (omega arith) (c .if3 .left)
+
+block-from-requires : tie.Need-block-from-requires Inv-loop2 μ-loop2 Inv-loop μ-loop
+block-from-requires c κs =
+    let a = c .before .before .before .before .before .before .before .args in
+    let i = c .before .before .before .before .loop .i in
+    let l = c .before .loop2 in
+    let v = c .before .before .cell .ensures .0 in (
+      omega arith,
+      v,
+      ⊎-elim
+          (λ k. k .1 ∙ Laws.run-end (depthOf (a .four)) (a .row .now) i (l .count) (l .inv) (omega arith))
+          (⊎-elim
+          (λ k. k .2 ∙ Laws.run-full (depthOf (a .four)) (a .row .now) i (l .count) (l .inv) (k .1 .taken))
+          (λ k. k .4 ∙ Laws.run-stop (depthOf (a .four)) (a .row .now) i (l .count) (l .inv) (omega arith) _ _ v (k .2 .ensures .0) (k .3 .taken)))
+          (c .if1 .came),
+    )
+
+put-block-requires : tie.Need-put-block-requires Inv-loop2 μ-loop2 Inv-loop μ-loop
+put-block-requires c κs =
+    let a = c .before .before .before .before .before .before .before .before .before .args in
+    let l = c .before .before .before .before .before .before .loop in
+    let e = c .before .block-from .ensures in
+    let t = Codes.turn (depthOf (a .four)) (depth-le (a .four)) (a .row .now) (l .i) (omega arith) _ e _ _ refl refl in
+    (omega arith, e, omega arith)
+
+width-requires : tie.Need-width-requires Inv-loop2 μ-loop2 Inv-loop μ-loop
+width-requires c κs = tt
+
+add-i : tie.Need-add-i Inv-loop2 μ-loop2 Inv-loop μ-loop
+add-i c =
+    let a = c .before .before .before .before .before .before .before .before .before .before .before .before .before .args in
+    let l = c .before .before .before .before .before .before .before .before .before .before .loop in
+    let e = c .before .before .before .before .before .block-from .ensures in
+    let t = Codes.turn (depthOf (a .four)) (depth-le (a .four)) (a .row .now) (l .i) (omega arith) _ e _ _ (c .width .ensures) refl in
+    omega arith
+
+loop-less : tie.Need-loop-less Inv-loop2 μ-loop2 Inv-loop μ-loop
+loop-less c =
+    let a = c .before .before .before .before .before .before .before .before .before .before .before .before .before .args in
+    let l = c .before .before .before .before .before .before .before .before .before .before .loop in
+    let e = c .before .before .before .before .before .block-from .ensures in
+    let t = Codes.turn (depthOf (a .four)) (depth-le (a .four)) (a .row .now) (l .i) (omega arith) _ e _ _ (c .width .ensures) refl in
+    omega arith
+
+loop-again : tie.Need-loop-again Inv-loop2 μ-loop2 Inv-loop μ-loop
+loop-again c =
+    let a = c .before .before .before .before .before .before .before .before .before .before .before .before .before .args in
+    let l = c .before .before .before .before .before .before .before .before .before .before .loop in
+    let e = c .before .before .before .before .before .block-from .ensures in
+    let t = Codes.turn (depthOf (a .four)) (depth-le (a .four)) (a .row .now) (l .i) (omega arith) _ e _ _ (c .width .ensures) refl in
+    let p = c .before .before .before .put-block in (
+      t .within,
+      p .kept .1 .1 .1 .1 .0 ∙ l .inv .1,
+      omega arith,
+      sym (Bytes.put-turn (depthOf (a .four)) (depth-le (a .four)) (a .row .now) (l .i) (omega arith) _ e (l .buf) _ (l .o) _ _ (p .ensures .1) (p .ensures .0) (c .width .ensures) (omega arith))
+          ∙ l .inv .3,
+    )
+
+same-length : tie.Need-same-length Inv-loop2 μ-loop2 Inv-loop μ-loop
+same-length c = c .before .loop .inv .1
+
+returns : tie.Need-returns Inv-loop2 μ-loop2 Inv-loop μ-loop
+returns c =
+    let a = c .before .before .before .before .args in
+    let l = c .before .loop in
+    let e = Codes.codes-none (depthOf (a .four)) (a .row .now) (l .i) (c .loop-test .left) in
+    (omega (arith, ap length e), sym (Puts.put-nil (l .buf) (l .o)) ∙ ap (put (l .buf) (l .o)) (sym e) ∙ l .inv .3)
+
+pub encode-rle-row-spec : {M : Type 1} → statement M
+encode-rle-row-spec =
+    tie.close
+    (tie.spec
+    Inv-loop2
+    μ-loop2
+    Inv-loop
+    μ-loop
+    loop-holds
+    cell-requires
+    loop2-holds
+    sub-if1
+    add-cell
+    cell-requires-2
+    add-count
+    loop2-less
+    loop2-again
+    block-from-requires
+    put-block-requires
+    width-requires
+    add-i
+    loop-less
+    loop-again
+    same-length
+    returns)

@@ -1,0 +1,105 @@
+use mathlib.Core.Path.{_≡_, refl, sym, _∙_, ap}
+use mathlib.Core.Bool.{not}
+use mathlib.Core.Logic.{⊎-elim}
+use Prim.Native.Nat.{_+_, _-_, _≤_}
+use native.Mathlib.Omega.{arith}
+use borrow.Author.Tests.{eq-eqb, ne-eqb}
+use lib.ListN.{length, getD, drop}
+use Rattle.rows.specs.RleCodes.{depthOf, cells, scan, lone, gatherLength}
+use Rattle.rows.proofs.Scans.{scan-full, scan-stop, scan-step, scan-end, twin-at, twin-end}
+use Rattle.rows.proofs.rle.gather.Statement.{statement}
+use Rattle.rows.proofs.rle.gather.Tie as tie
+
+abbrev Inv-loop : tie.InvT-loop
+Inv-loop row at four count₀ count =
+    (at + count ≤ length row) × (gatherLength (drop (at + 1) (cells (depthOf four) row)) ≡ scan lone count (drop (at + count) (cells (depthOf four) row)))
+
+abbrev μ-loop : tie.MeasureT-loop
+μ-loop row at four count₀ count = length row - count
+
+loop-holds : tie.Need-loop-holds Inv-loop μ-loop
+loop-holds c = (omega arith, refl)
+
+sub-if1 : tie.Need-sub-if1 Inv-loop μ-loop
+sub-if1 c = omega arith
+
+add-next : tie.Need-add-next Inv-loop μ-loop
+add-next c = omega arith
+
+add-if3 : tie.Need-add-if3 Inv-loop μ-loop
+add-if3 c = omega arith
+
+cell-requires : tie.Need-cell-requires Inv-loop μ-loop
+cell-requires c κs = omega arith
+
+add-cell : tie.Need-add-cell Inv-loop μ-loop
+add-cell c = omega arith
+
+cell-requires-2 : tie.Need-cell-requires-2 Inv-loop μ-loop
+cell-requires-2 c κs = omega arith
+
+add-count : tie.Need-add-count Inv-loop μ-loop
+add-count c = omega arith
+
+loop-less : tie.Need-loop-less Inv-loop μ-loop
+loop-less c = omega arith
+
+loop-again : tie.Need-loop-again Inv-loop μ-loop
+loop-again c =
+    let a = c .before .before .before .before .before .args in
+    let row = a .row .now in
+    let n = c .before .before .before .loop .count in
+    let q = a .at + n + 1 in
+    let e : a .at + (n + 1) ≡ q = omega arith in
+    let x = getD (cells (depthOf (a .four)) row) (a .at + n) 0 in (
+      omega arith,
+      c .before .before .before .loop .inv .1
+          ∙ scan-step lone (depthOf (a .four)) row n (a .at + n) (a .at + (n + 1)) e (omega arith) (omega arith)
+          (rw e
+          (⊎-elim
+          (λ w. ap not (twin-at (depthOf (a .four)) row x q (w .0 .taken) ∙ ne-eqb _ _ (λ t. w .3 .left (w .1 .ensures .0 ∙ t ∙ sym (w .2 .ensures .0)))))
+          (λ w. ap not (twin-end (depthOf (a .four)) row x q (w .left)))
+          (c .if3 .came))),
+    )
+
+returns : tie.Need-returns Inv-loop μ-loop
+returns c =
+    let a = c .before .before .before .args in
+    let n = c .before .loop .count in
+    sym (c .before .loop .inv .1 ∙ scan-end lone (depthOf (a .four)) (a .row .now) n (a .at + n) (omega arith))
+
+returns-2 : tie.Need-returns-2 Inv-loop μ-loop
+returns-2 c =
+    sym (c .before .before .loop .inv .1 ∙ scan-full _ _ _ (c .if2 .taken))
+
+returns-3 : tie.Need-returns-3 Inv-loop μ-loop
+returns-3 c =
+    let a = c .before .before .before .before .before .before .before .before .args in
+    let row = a .row .now in
+    let n = c .before .before .before .before .before .before .loop .count in
+    let q = a .at + n + 1 in
+    let x = getD (cells (depthOf (a .four)) row) (a .at + n) 0 in
+    sym
+    (c .before .before .before .before .before .before .loop .inv .1
+    ∙ scan-stop lone (depthOf (a .four)) row n (a .at + n) q refl (omega arith)
+    (ap not (twin-at (depthOf (a .four)) row x q (omega arith) ∙ eq-eqb _ _ (sym (c .before .before .cell .ensures .0) ∙ c .if4 .taken ∙ c .before .cell2 .ensures .0))))
+
+pub gather-spec : {M : Type 1} → statement M
+gather-spec =
+    tie.close
+    (tie.spec
+    Inv-loop
+    μ-loop
+    loop-holds
+    sub-if1
+    add-next
+    add-if3
+    cell-requires
+    add-cell
+    cell-requires-2
+    add-count
+    loop-less
+    loop-again
+    returns
+    returns-2
+    returns-3)

@@ -1,0 +1,129 @@
+use mathlib.Core.Path.{_≡_, refl, sym}
+use mathlib.Core.Bool.{Bool}
+use mathlib.Core.List.{List}
+use Prim.Native.Nat.{ℕ, _+_, _-_, _*_, _≤_}
+use native.Mathlib.Nat.{le-antisymm, add-zero}
+use native.Mathlib.Omega.{arith}
+use borrow.Author.Needs.{needs}
+use lib.Dec.{eqb}
+use lib.ListN.{length, take, drop}
+use Rattle.leaves.specs.Lists.{cat}
+use Rattle.leaves.specs.Put.{put}
+use Rattle.rows.specs.RleCodes.{isRle4, depthOf, rowCodes}
+use Rattle.rows.specs.Stream.{streamRow, stream}
+use Rattle.leaves.proofs.Puts.{put-nil}
+use Rattle.rows.proofs.Streams.{row-inside, row-fits, write-turn, count-turn}
+use Rattle.rows.proofs.rle.rle_into.Statement.{statement}
+use Rattle.rows.proofs.rle.rle_into.Tie as tie
+
+-- the stream's room, at the depth that the coding has
+room : (four is : Bool) (w h : ℕ) (plane : List ℕ) (stride at n m : ℕ) → four ≡ is → n ≡ m → at + length (stream (depthOf is) w h plane stride) ≤ m
+    → at + length (cat (streamRow (depthOf four) w h plane stride) h) ≤ n
+unfolding stream
+room four is w h plane stride at n m e f g = rw (e, f) g
+
+-- all rows are written
+whole : (four is : Bool) (w h : ℕ) (plane : List ℕ) (stride y at o : ℕ) (buf₀ buf : List ℕ) → four ≡ is → y ≡ h
+    → o ≡ at + length (cat (streamRow (depthOf four) w h plane stride) y) → buf ≡ put buf₀ at (cat (streamRow (depthOf four) w h plane stride) y)
+    → (o ≡ at + length (stream (depthOf is) w h plane stride)) × (buf ≡ put buf₀ at (stream (depthOf is) w h plane stride))
+unfolding stream
+whole four is w h plane stride y at o buf₀ buf e f eo eb = (rw (e, f) at eo, rw (e, f) at eb)
+
+abbrev Inv-loop : tie.InvT-loop
+Inv-loop plane stride width height buf₀ at four w h o₀ y₀ buf o y = (y ≤ h) × (o ≡ at + length (cat (streamRow (depthOf four) w h plane stride) y)) × (length buf ≡ length buf₀) × (buf ≡ put buf₀ at (cat (streamRow (depthOf four) w h plane stride) y))
+
+abbrev μ-loop : tie.MeasureT-loop
+μ-loop plane stride width height buf₀ at four w h o₀ y₀ buf o y = h - y
+
+is-rle4-requires : tie.Need-is-rle4-requires Inv-loop μ-loop
+is-rle4-requires c κs = tt
+
+loop-holds : tie.Need-loop-holds Inv-loop μ-loop
+unfolding cat
+loop-holds c = let a = c .before .before .before .args in (omega arith, sym (add-zero (a .at)), refl, sym (put-nil (a .buf .now) (a .at)))
+
+sub-start : tie.Need-sub-start Inv-loop μ-loop
+sub-start c = omega arith
+
+sub-start-2 : tie.Need-sub-start-2 Inv-loop μ-loop
+sub-start-2 c = omega arith
+
+mul-start : tie.Need-mul-start Inv-loop μ-loop
+mul-start c = omega (arith, row-inside (c .before .before .before .before .before .args .height) (c .before .loop .y) (c .before .before .before .before .before .args .stride) (c .before .before .before .before .before .args .width) (length (c .before .before .before .before .before .args .plane .now)) (omega arith) (omega arith) (omega arith))
+
+add-end : tie.Need-add-end Inv-loop μ-loop
+add-end c = omega (arith, row-inside (c .before .before .before .before .before .args .height) (c .before .loop .y) (c .before .before .before .before .before .args .stride) (c .before .before .before .before .before .args .width) (length (c .before .before .before .before .before .args .plane .now)) (omega arith) (omega arith) (omega arith))
+
+add-last : tie.Need-add-last Inv-loop μ-loop
+add-last c = omega arith
+
+sub-rle-row : tie.Need-sub-rle-row Inv-loop μ-loop
+sub-rle-row c = omega arith
+
+part-rle-row-start : tie.Need-part-rle-row-start Inv-loop μ-loop
+part-rle-row-start c = search needs
+
+part-rle-row-end : tie.Need-part-rle-row-end Inv-loop μ-loop
+part-rle-row-end c = let w = row-inside (c .before .before .before .before .before .args .height) (c .before .loop .y) (c .before .before .before .before .before .args .stride) (c .before .before .before .before .before .args .width) (length (c .before .before .before .before .before .args .plane .now)) (omega arith) (omega arith) (omega arith) in search needs
+
+rle-row-requires : tie.Need-rle-row-requires Inv-loop μ-loop
+rle-row-requires c κs =
+    let a = c .before .before .before .before .before .before .before .args in
+    let l = c .before .before .before .loop in
+    row-fits (depthOf (c .before .before .before .before .is-rle4 .result)) (a .width) (a .height) (a .plane .now) (a .stride) (l .y) (a .at) (l .o) (length (l .buf)) (omega arith) (l .inv .1)
+    (room (c .before .before .before .before .is-rle4 .result) (isRle4 (a .rle)) (a .width) (a .height) (a .plane .now) (a .stride) (a .at) (length (l .buf)) (length (a .buf .now)) (c .before .before .before .before .is-rle4 .ensures) (l .inv .2) (c .before .before .before .before .before .before .before .pre .1 .1))
+
+add-y : tie.Need-add-y Inv-loop μ-loop
+add-y c = omega arith
+
+loop-less : tie.Need-loop-less Inv-loop μ-loop
+loop-less c = omega arith
+
+loop-again : tie.Need-loop-again Inv-loop μ-loop
+loop-again c =
+    let a = c .before .before .before .before .before .before .before .before .before .before .args in
+    let l = c .before .before .before .before .before .before .loop in
+    let four = c .before .before .before .before .before .before .before .is-rle4 .result in
+    let f = streamRow (depthOf four) (a .width) (a .height) (a .plane .now) (a .stride) in
+    let n = rowCodes (depthOf four) (take ((a .height - 1 - l .y) * a .stride + a .width - (a .height - 1 - l .y) * a .stride) (drop ((a .height - 1 - l .y) * a .stride) (a .plane .now))) in
+    let t = count-turn (depthOf four) (a .width) (a .height) (a .plane .now) (a .stride) (l .y) (length (cat f (l .y))) (length n) refl refl in
+    let r = c .before .before .rle-row in (
+      omega arith,
+      omega (arith, r .ensures .0),
+      omega arith,
+      write-turn (depthOf four) (a .width) (a .height) (a .plane .now) (a .stride) (l .y) (a .buf .now) (l .buf) (r .last .1 .1 .1 .0) (a .at) (l .o) (eqb (l .y + 1) (a .height)) refl (omega arith)
+          (room four (isRle4 (a .rle)) (a .width) (a .height) (a .plane .now) (a .stride) (a .at) (length (a .buf .now)) (length (a .buf .now)) (c .before .before .before .before .before .before .before .is-rle4 .ensures) refl (c .before .before .before .before .before .before .before .before .before .before .pre .1 .1))
+          (l .inv .1) (l .inv .3) (r .ensures .1),
+    )
+
+same-length : tie.Need-same-length Inv-loop μ-loop
+same-length c = omega arith
+
+returns : tie.Need-returns Inv-loop μ-loop
+returns c =
+    let a = c .before .before .before .before .before .args in
+    let l = c .before .loop in
+    whole (c .before .before .is-rle4 .result) (isRle4 (a .rle)) (a .width) (a .height) (a .plane .now) (a .stride) (l .y) (a .at) (l .o) (a .buf .now) (l .buf) (c .before .before .is-rle4 .ensures) (le-antisymm (l .inv .0) (c .loop-test .left)) (l .inv .1) (l .inv .3)
+
+pub rle-into-spec : {M : Type 1} → statement M
+rle-into-spec =
+    tie.close
+    (tie.spec
+    Inv-loop
+    μ-loop
+    is-rle4-requires
+    loop-holds
+    sub-start
+    sub-start-2
+    mul-start
+    add-end
+    add-last
+    sub-rle-row
+    part-rle-row-start
+    part-rle-row-end
+    rle-row-requires
+    add-y
+    loop-less
+    loop-again
+    same-length
+    returns)

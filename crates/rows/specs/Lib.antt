@@ -1,0 +1,5 @@
+pub mod Decode
+pub mod Packing
+pub mod RleCodes
+pub mod StoredRows
+pub mod Stream

@@ -1,0 +1,3 @@
+// Rows: packed as the file stores them, or coded, counted and written.
+pub mod pack;
+pub mod rle;

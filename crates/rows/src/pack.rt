@@ -1,0 +1,318 @@
+// How a source row becomes a stored row (the Rust's encoder.rs, section on pixel packing). Each packer
+// writes one whole stored row, padding included, whatever the buffer held before.
+ghost use mathlib.Core.Path.{_≡_};
+ghost use mathlib.Core.Bool.{true};
+ghost use mathlib.Core.Logic.{_⊎_};
+ghost use mathlib.Core.List.{[], _∷_};
+ghost use Prim.Native.Nat.{_+_, _*_, _^_, _<_, _≤_};
+ghost use lib.ListN.{length, getD};
+ghost use Rattle.leaves.specs.Masks.{ShiftLen};
+ghost use Rattle.leaves.specs.Put.{put};
+ghost use Rattle.leaves.specs.Sizes.{rowStride, hasTable};
+ghost use Rattle.rows.specs.Packing.{packedByte, packed};
+ghost use Rattle.rows.specs.declared.pack.RowPack.the-variants.{Bgra32, Bgr24, Words16, Masks};
+ghost use Rattle.rows.specs.StoredRows.{padded, cell24, cell32, field, maskWord, maskCell, storedRow, packBits, packBytes, LayoutOk, PackOk, storedRows};
+use leaves::bitfields::MaskShiftLen;
+use leaves::bitfields::mask_shift_len;
+use leaves::bitfields::quantise;
+use leaves::buffer::put_slice;
+use leaves::buffer::put_u16;
+use leaves::buffer::put_u32;
+use leaves::buffer::put_zeros;
+use leaves::types::row_stride;
+
+// A mask set resolved to each channel's place and length.
+pub struct MaskLayout {
+    pub bpp: u16,
+    pub r: MaskShiftLen,
+    pub g: MaskShiftLen,
+    pub b: MaskShiftLen,
+    pub a: MaskShiftLen,
+}
+
+// How a source row becomes a stored row.
+pub enum RowPack {
+    // 32-bit cells from 4-byte pixels; `bgr` where blue comes first already.
+    Bgra32 {
+        bgr: bool,
+    },
+    // 24-bit cells from 3-byte pixels.
+    Bgr24 {
+        bgr: bool,
+    },
+    // 16-bit words, copied.
+    Words16,
+    // One index byte a pixel, packed to 1, 2, 4 or 8 bits.
+    Indexed {
+        bpp: u16,
+    },
+    // Samples fitted to masks, from pixels of 3 or 4 bytes.
+    Masks {
+        in_bpp: usize,
+        bgr: bool,
+        layout: MaskLayout,
+    },
+}
+
+// Byte i of a row of indices, packed to bpp bits.
+fn packed_byte(src: &[u8], bpp: u16, i: usize) -> u8
+    requires { ⌜ hasTable bpp ≡ true ⌝ }
+    requires { ⌜ i < 2 ^ 40 ⌝ }
+    ensures { λ r. ⌜ r ≡ packedByte bpp (λ x. getD (now (src .entry)) x 0) i ⌝ }
+{
+    let per: usize = 8 / bpp as usize;
+    let base: u32 = 1u32 << bpp as u32;
+    let mut byte: u32 = 0;
+    let mut j: usize = 0;
+    while j < per {
+        let x = i * per + j;
+        let index = if x < src.len() { src[x] as u32 } else { 0 };
+        byte = byte * base + index % base;
+        j += 1;
+    }
+    byte as u8
+}
+
+// The first n bytes of indices packed to bpp bits.
+pub fn pack_bytes(src: &[u8], bpp: u16, n: usize, dst: &mut [u8], at: usize)
+    requires { ⌜ hasTable bpp ≡ true ⌝ }
+    requires { ⌜ n < 2 ^ 40 ⌝ }
+    requires { ⌜ at + n ≤ length (now dst) ⌝ }
+    ensures { λ _. ⌜ now (dst .exit) ≡ put (now (dst .entry)) at (packed bpp (now (src .entry)) n) ⌝ }
+{
+    let mut i = 0;
+    while i < n {
+        dst[at + i] = packed_byte(src, bpp, i);
+        i += 1;
+    }
+}
+
+// A row of indices, packed to bpp bits.
+pub fn pack_indices(src: &[u8], bpp: u16, dst: &mut [u8], at: usize)
+    requires { ⌜ hasTable bpp ≡ true ⌝ }
+    requires { ⌜ length (now src) < 2 ^ 32 ⌝ }
+    requires { ⌜ at + rowStride (length (now src)) bpp ≤ length (now dst) ⌝ }
+    ensures { λ _. ⌜ now (dst .exit) ≡ put (now (dst .entry)) at (packed bpp (now (src .entry)) (rowStride (length (now (src .entry))) bpp)) ⌝ }
+{
+    let w = src.len();
+    let stride = row_stride(w as u32, bpp);
+    if bpp == 8 {
+        put_slice(dst, at, src);
+        put_zeros(dst, at + w, stride - w);
+        return;
+    }
+    pack_bytes(src, bpp, stride, dst, at);
+}
+
+// 16-bit words, copied.
+fn pack_words16(src: &[u8], width: u32, dst: &mut [u8], at: usize)
+    requires { ⌜ length (now src) ≡ width * 2 ⌝ }
+    requires { ⌜ at + rowStride width 16 ≤ length (now dst) ⌝ }
+    ensures { λ _. ⌜ now (dst .exit) ≡ put (now (dst .entry)) at (storedRow Words16 width (now (src .entry))) ⌝ }
+{
+    let n = src.len();
+    put_slice(dst, at, src);
+    put_zeros(dst, at + n, row_stride(width, 16) - n);
+}
+
+// 24-bit cells: blue, green, red.
+fn pack_bgr24(src: &[u8], bgr: bool, width: u32, dst: &mut [u8], at: usize)
+    requires { ⌜ length (now src) ≡ width * 3 ⌝ }
+    requires { ⌜ at + rowStride width 24 ≤ length (now dst) ⌝ }
+    ensures { λ _. ⌜ now (dst .exit) ≡ put (now (dst .entry)) at (storedRow (Bgr24 bgr) width (now (src .entry))) ⌝ }
+{
+    let red: usize = if bgr { 2 } else { 0 };
+    let blue: usize = 2 - red;
+    let n = src.len();
+    let mut s = 0;
+    while s < n {
+        let o = at + s;
+        dst[o] = src[s + blue];
+        dst[o + 1] = src[s + 1];
+        dst[o + 2] = src[s + red];
+        s += 3;
+    }
+    put_zeros(dst, at + n, row_stride(width, 24) - n);
+}
+
+// 32-bit cells: blue, green, red, alpha. Such a row has no padding.
+fn pack_bgra32(src: &[u8], bgr: bool, width: u32, dst: &mut [u8], at: usize)
+    requires { ⌜ length (now src) ≡ width * 4 ⌝ }
+    requires { ⌜ at + rowStride width 32 ≤ length (now dst) ⌝ }
+    ensures { λ _. ⌜ now (dst .exit) ≡ put (now (dst .entry)) at (storedRow (Bgra32 bgr) width (now (src .entry))) ⌝ }
+{
+    let red: usize = if bgr { 2 } else { 0 };
+    let blue: usize = 2 - red;
+    let n = src.len();
+    let mut s = 0;
+    while s < n {
+        let o = at + s;
+        dst[o] = src[s + blue];
+        dst[o + 1] = src[s + 1];
+        dst[o + 2] = src[s + red];
+        dst[o + 3] = src[s + 3];
+        s += 4;
+    }
+}
+
+// A sample in its channel's place.
+fn mask_field(channel: MaskShiftLen, sample: u8) -> u32
+    requires { ⌜ channel .shift + channel .len ≤ 32 ⌝ }
+    ensures { λ r. ⌜ r ≡ field channel sample ⌝ }
+{
+    if channel.len == 0 {
+        return 0;
+    }
+    quantise(sample, channel.len) << channel.shift
+}
+
+impl MaskLayout {
+    pub fn new(bpp: u16, masks: [u32; 4]) -> Self
+        ensures { λ r. ⌜
+            (r .bpp ≡ bpp)
+            × ShiftLen (getD masks 0 0) (r .r .shift) (r .r .len)
+            × ShiftLen (getD masks 1 0) (r .g .shift) (r .g .len)
+            × ShiftLen (getD masks 2 0) (r .b .shift) (r .b .len)
+            × ShiftLen (getD masks 3 0) (r .a .shift) (r .a .len)
+            ⌝ }
+    {
+        let r = mask_shift_len(masks[0]);
+        let g = mask_shift_len(masks[1]);
+        let b = mask_shift_len(masks[2]);
+        let a = mask_shift_len(masks[3]);
+        MaskLayout { bpp, r, g, b, a }
+    }
+
+    // The word of pixel x of a source row.
+    fn word(self, src: &[u8], in_bpp: usize, bgr: bool, x: usize) -> u32
+        requires { ⌜ LayoutOk self ⌝ }
+        requires { ⌜ («in_bpp» ≡ 3) ⊎ («in_bpp» ≡ 4) ⌝ }
+        requires { ⌜ x * «in_bpp» + «in_bpp» ≤ length (now src) ⌝ }
+        ensures { λ r. ⌜ r ≡ maskWord self «in_bpp» bgr (now (src .entry)) x ⌝ }
+    {
+        let s = x * in_bpp;
+        let red: usize = if bgr { 2 } else { 0 };
+        let blue: usize = 2 - red;
+        let alpha = if in_bpp == 4 { src[s + 3] } else { 255 };
+        let r = mask_field(self.r, src[s + red]);
+        let g = mask_field(self.g, src[s + 1]);
+        let b = mask_field(self.b, src[s + blue]);
+        let a = mask_field(self.a, alpha);
+        r | g | b | a
+    }
+
+    // Cells of 16 or 32 bits, fitted to masks.
+    pub fn pack(self, src: &[u8], in_bpp: usize, bgr: bool, width: u32, dst: &mut [u8], at: usize)
+        requires { ⌜ LayoutOk self ⌝ }
+        requires { ⌜ («in_bpp» ≡ 3) ⊎ («in_bpp» ≡ 4) ⌝ }
+        requires { ⌜ length (now src) ≡ width * «in_bpp» ⌝ }
+        requires { ⌜ at + rowStride width (self .bpp) ≤ length (now dst) ⌝ }
+        ensures { λ _. ⌜ now (dst .exit) ≡ put (now (dst .entry)) at (storedRow (Masks «in_bpp» bgr self) width (now (src .entry))) ⌝ }
+    {
+        let w = width as usize;
+        let bpp = self.bpp;
+        let mut o = at;
+        let mut x = 0;
+        while x < w {
+            let word = self.word(src, in_bpp, bgr, x);
+            if bpp == 16 {
+                put_u16(dst, o, (word % 65536) as u16);
+                o += 2;
+            } else {
+                put_u32(dst, o, word);
+                o += 4;
+            }
+            x += 1;
+        }
+        put_zeros(dst, o, row_stride(width, bpp) - (o - at));
+    }
+}
+
+impl RowPack {
+    // Bits of a pixel in the file.
+    pub fn bits_per_pixel(self) -> u16
+        ensures { λ r. ⌜ r ≡ packBits self ⌝ }
+    {
+        match self {
+            RowPack::Bgra32 { bgr: _ } => 32,
+            RowPack::Bgr24 { bgr: _ } => 24,
+            RowPack::Words16 => 16,
+            RowPack::Indexed { bpp } => bpp,
+            RowPack::Masks {
+                in_bpp: _,
+                bgr: _,
+                layout,
+            } => layout.bpp,
+        }
+    }
+
+    // Bytes of a pixel in the source.
+    pub fn source_bytes(self) -> usize
+        ensures { λ r. ⌜ r ≡ packBytes self ⌝ }
+    {
+        match self {
+            RowPack::Bgra32 { bgr: _ } => 4,
+            RowPack::Bgr24 { bgr: _ } => 3,
+            RowPack::Words16 => 2,
+            RowPack::Indexed { bpp: _ } => 1,
+            RowPack::Masks {
+                in_bpp,
+                bgr: _,
+                layout: _,
+            } => in_bpp,
+        }
+    }
+
+    // Writes the stored row of a source row.
+    pub fn row(self, src: &[u8], width: u32, dst: &mut [u8], at: usize)
+        requires { ⌜ PackOk self ⌝ }
+        requires { ⌜ length (now src) ≡ width * packBytes self ⌝ }
+        requires { ⌜ at + rowStride width (packBits self) ≤ length (now dst) ⌝ }
+        ensures { λ _. ⌜ now (dst .exit) ≡ put (now (dst .entry)) at (storedRow self width (now (src .entry))) ⌝ }
+    {
+        match self {
+            RowPack::Bgra32 { bgr } => pack_bgra32(src, bgr, width, dst, at),
+            RowPack::Bgr24 { bgr } => pack_bgr24(src, bgr, width, dst, at),
+            RowPack::Words16 => pack_words16(src, width, dst, at),
+            RowPack::Indexed { bpp } => pack_indices(src, bpp, dst, at),
+            RowPack::Masks {
+                in_bpp,
+                bgr,
+                layout,
+            } => layout.pack(src, in_bpp, bgr, width, dst, at),
+        }
+    }
+
+    // Writes all stored rows of a plane. Each row's source is the part of the plane that starts at its
+    // own offset.
+    pub fn pack_all(
+        self,
+        plane: &[u8],
+        stride: usize,
+        width: u32,
+        height: u32,
+        top_down: bool,
+        dst: &mut [u8],
+        at: usize,
+    )
+        requires { ⌜ PackOk self ⌝ }
+        requires { ⌜ width * packBytes self ≤ stride ⌝ }
+        requires { ⌜ stride * height ≤ length (now plane) ⌝ }
+        requires { ⌜ at + rowStride width (packBits self) * height ≤ length (now dst) ⌝ }
+        ensures { λ _. ⌜ now (dst .exit) ≡ put (now (dst .entry)) at (storedRows self width height «top_down» (now (plane .entry)) stride) ⌝ }
+    {
+        let bytes = width as usize * self.source_bytes();
+        let stored = row_stride(width, self.bits_per_pixel());
+        let h = height as usize;
+        let mut o = at;
+        let mut y = 0;
+        while y < h {
+            let from = if top_down { y } else { h - 1 - y };
+            let start = from * stride;
+            let end = start + bytes;
+            self.row(&plane[start..end], width, dst, o);
+            o += stored;
+            y += 1;
+        }
+    }
+}

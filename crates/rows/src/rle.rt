@@ -1,0 +1,376 @@
+// The row coders, the stream's count and the stream writer (the Rust's encoder.rs, section on RLE).
+ghost use mathlib.Core.Path.{_≡_};
+ghost use mathlib.Core.Bool.{cond};
+ghost use mathlib.Core.List.{[], _∷_, _++_};
+ghost use Prim.Native.Nat.{_+_, _*_, _<_, _≤_, _^_};
+ghost use lib.ListN.{length, getD, take, drop};
+ghost use Rattle.leaves.specs.Put.{put};
+ghost use Rattle.rows.specs.Packing.{packedByte, packed};
+ghost use Rattle.rows.specs.RleCodes.{isRle4, depthOf, cells, runLength, gatherLength, blockAt, width, dataBytes, bytes, size, rowCodes};
+ghost use Rattle.rows.specs.Stream.{stream, counted};
+use crate::pack::pack_bytes;
+
+// Which of the two codings: `four` of the functions below is true for Rle4.
+pub enum Rle {
+    Rle8,
+    Rle4,
+}
+
+impl Rle {
+    pub fn is_rle4(self) -> bool
+        ensures { λ r. ⌜ r ≡ isRle4 self ⌝ }
+    {
+        match self {
+            Rle::Rle8 => false,
+            Rle::Rle4 => true,
+        }
+    }
+}
+
+// What the coder takes from a place.
+pub enum Block {
+    // A count and two indices; at depth 8 the second is not written.
+    Pair(usize, usize, usize),
+    // So many indices as they are.
+    Absolute(usize),
+}
+
+// A stream's length where it is under the budget.
+pub enum StreamCount {
+    Under(usize),
+    OverBudget,
+}
+
+// The cell at k: an index, cut to the depth.
+fn cell(row: &[u8], k: usize, four: bool) -> usize
+    requires { ⌜ k < length (now row) ⌝ }
+    ensures { λ r. ⌜ (r ≡ getD (cells (depthOf four) (now (row .entry))) k 0) × (r < 2 ^ depthOf four) ⌝ }
+{
+    let index = row[k] as usize;
+    if four {
+        return index % 16;
+    }
+    index
+}
+
+// How many indices are gathered from `at` on.
+fn gather(row: &[u8], at: usize, four: bool) -> usize
+    requires { ⌜ at < length (now row) ⌝ }
+    ensures { λ r. ⌜ r ≡ gatherLength (drop (at + 1) (cells (depthOf four) (now (row .entry)))) ⌝ }
+{
+    let mut count: usize = 1;
+    loop {
+        if row.len() - at <= count {
+            break count;
+        }
+        if 255 <= count {
+            break count;
+        }
+        let next = at + count;
+        if next + 1 < row.len() {
+            let x = cell(row, next, four);
+            let y = cell(row, next + 1, four);
+            if x == y {
+                break count;
+            }
+        }
+        count += 1;
+    }
+}
+
+// The block at `at`, where a run of `run` cells `v` starts.
+fn block_from(row: &[u8], at: usize, four: bool, v: usize, run: usize) -> Block
+    requires { ⌜
+        (at < length (now row))
+        × (v ≡ getD (cells (depthOf four) (now row)) at 0)
+        × (run ≡ runLength (getD (cells (depthOf four) (now row)) at 0) (drop (at + 1) (cells (depthOf four) (now row))))
+        ⌝ }
+    ensures { λ r. ⌜ r ≡ blockAt (cells (depthOf four) (now (row .entry))) at ⌝ }
+{
+    if 1 < run {
+        return Block::Pair(run, v, v);
+    }
+    let gathered = gather(row, at, four);
+    if 2 < gathered {
+        return Block::Absolute(gathered);
+    }
+    if at + 1 < row.len() {
+        let w = cell(row, at + 1, four);
+        return Block::Pair(1, v, w);
+    }
+    Block::Pair(1, v, 0)
+}
+
+// Data bytes of an absolute block of n cells.
+fn data_bytes(n: usize, four: bool) -> usize
+    requires { ⌜ n ≤ 255 ⌝ }
+    ensures { λ r. ⌜ (r ≡ dataBytes (depthOf four) n) × (r ≤ 256) ⌝ }
+{
+    if four {
+        return (n * 4 + 15) / 16 * 2;
+    }
+    (n * 8 + 15) / 16 * 2
+}
+
+impl Block {
+    // How many cells it codes.
+    fn width(self) -> usize
+        ensures { λ r. ⌜ r ≡ width self ⌝ }
+    {
+        match self {
+            Block::Pair(n, _, _) => n,
+            Block::Absolute(n) => n,
+        }
+    }
+
+    // How many bytes it is written in.
+    fn len(self, four: bool) -> usize
+        requires { ⌜ width self ≤ 255 ⌝ }
+        ensures { λ r. ⌜ r ≡ size (depthOf four) self ⌝ }
+    {
+        match self {
+            Block::Pair(_, _, _) => 2,
+            Block::Absolute(n) => 2 + data_bytes(n, four),
+        }
+    }
+}
+
+// How many equal cells start at `at`, at most 255.
+fn run_length(row: &[u8], at: usize, four: bool) -> usize
+    requires { ⌜ at < length (now row) ⌝ }
+    ensures { λ r. ⌜ r ≡ runLength (getD (cells (depthOf four) (now (row .entry))) at 0) (drop (at + 1) (cells (depthOf four) (now (row .entry)))) ⌝ }
+{
+    let v = cell(row, at, four);
+    let mut count: usize = 1;
+    loop {
+        if row.len() - at <= count {
+            break count;
+        }
+        if 255 <= count {
+            break count;
+        }
+        let w = cell(row, at + count, four);
+        if w != v {
+            break count;
+        }
+        count += 1;
+    }
+}
+
+// The block that starts at `at`.
+fn block_at(row: &[u8], at: usize, four: bool) -> Block
+    requires { ⌜ at < length (now row) ⌝ }
+    ensures { λ r. ⌜ r ≡ blockAt (cells (depthOf four) (now (row .entry))) at ⌝ }
+{
+    let v = cell(row, at, four);
+    let run = run_length(row, at, four);
+    block_from(row, at, four, v, run)
+}
+
+// How many bytes a row's codes take.
+fn rle_row_len(row: &[u8], four: bool) -> usize
+    ensures { λ r. ⌜ (r ≡ length (rowCodes (depthOf four) (now (row .entry)))) × (r ≤ 2 * length (now (row .entry))) ⌝ }
+{
+    let mut len: usize = 0;
+    let mut at: usize = 0;
+    while at < row.len() {
+        let b = block_at(row, at, four);
+        len += b.len(four);
+        at += b.width();
+    }
+    len
+}
+
+// The byte of a pair: at depth 4 both indices, the first high.
+fn pair_byte(v: usize, w: usize, four: bool) -> u8
+    requires { ⌜ (v < 2 ^ depthOf four) × (w < 2 ^ depthOf four) ⌝ }
+    ensures { λ r. ⌜ r ≡ packedByte (depthOf four) (λ j. getD (v ∷ w ∷ []) j 0) 0 ⌝ }
+{
+    if four {
+        return (v * 16 + w) as u8;
+    }
+    v as u8
+}
+
+// The depth of the indices.
+fn depth(four: bool) -> u16
+    ensures { λ r. ⌜ r ≡ depthOf four ⌝ }
+{
+    if four {
+        return 4;
+    }
+    8
+}
+
+// Writes the data of an absolute block, the `n` cells from `i` on, and returns the place after it.
+fn put_data(row: &[u8], i: usize, n: usize, four: bool, buf: &mut [u8], at: usize) -> usize
+    requires { ⌜ (i + n ≤ length (now row)) × (n ≤ 255) × (at + dataBytes (depthOf four) n ≤ length (now buf)) ⌝ }
+    ensures { λ r. ⌜
+        (r ≡ at + dataBytes (depthOf four) n)
+        × (now (buf .exit) ≡ put (now (buf .entry)) at (packed (depthOf four) (take n (drop i (cells (depthOf four) (now (row .entry))))) (dataBytes (depthOf four) n)))
+        ⌝ }
+{
+    let len = data_bytes(n, four);
+    let end = i + n;
+    pack_bytes(&row[i..end], depth(four), len, buf, at);
+    at + len
+}
+
+// Writes the block at `i` of a row, and returns the place after it.
+fn put_block(row: &[u8], i: usize, four: bool, b: Block, buf: &mut [u8], at: usize) -> usize
+    requires { ⌜ (i < length (now row)) × (b ≡ blockAt (cells (depthOf four) (now row)) i) × (at + size (depthOf four) b ≤ length (now buf)) ⌝ }
+    ensures { λ r. ⌜
+        (r ≡ at + size (depthOf four) b)
+        × (now (buf .exit) ≡ put (now (buf .entry)) at (bytes (depthOf four) b (drop i (cells (depthOf four) (now (row .entry))))))
+        ⌝ }
+{
+    match b {
+        Block::Pair(n, v, w) => {
+            buf[at] = n as u8;
+            buf[at + 1] = pair_byte(v, w, four);
+            at + 2
+        }
+        Block::Absolute(n) => {
+            buf[at] = 0;
+            buf[at + 1] = n as u8;
+            put_data(row, i, n, four, buf, at + 2)
+        }
+    }
+}
+
+// Writes a row's codes from `at` on, and returns the place after them.
+fn encode_rle_row(row: &[u8], four: bool, buf: &mut [u8], at: usize) -> usize
+    requires { ⌜ at + length (rowCodes (depthOf four) (now row)) ≤ length (now buf) ⌝ }
+    ensures { λ r. ⌜
+        (r ≡ at + length (rowCodes (depthOf four) (now (row .entry))))
+        × (now (buf .exit) ≡ put (now (buf .entry)) at (rowCodes (depthOf four) (now (row .entry))))
+        ⌝ }
+{
+    let mut o = at;
+    let mut i: usize = 0;
+    while i < row.len() {
+        let v = cell(row, i, four);
+        let mut count: usize = 1;
+        let run = loop {
+            if row.len() - i <= count {
+                break count;
+            }
+            if 255 <= count {
+                break count;
+            }
+            let w = cell(row, i + count, four);
+            if w != v {
+                break count;
+            }
+            count += 1;
+        };
+        let b = block_from(row, i, four, v, run);
+        o = put_block(row, i, four, b, buf, o);
+        i += b.width();
+    }
+    o
+}
+
+// The codes of BI_RLE8: indices of 8 bits.
+pub fn encode_rle8_row(row: &[u8], buf: &mut [u8], at: usize) -> usize
+    requires { ⌜ at + length (rowCodes 8 (now row)) ≤ length (now buf) ⌝ }
+    ensures { λ r. ⌜
+        (r ≡ at + length (rowCodes 8 (now (row .entry))))
+        × (now (buf .exit) ≡ put (now (buf .entry)) at (rowCodes 8 (now (row .entry))))
+        ⌝ }
+{
+    encode_rle_row(row, false, buf, at)
+}
+
+// The codes of BI_RLE4: indices cut to 4 bits.
+pub fn encode_rle4_row(row: &[u8], buf: &mut [u8], at: usize) -> usize
+    requires { ⌜ at + length (rowCodes 4 (now row)) ≤ length (now buf) ⌝ }
+    ensures { λ r. ⌜
+        (r ≡ at + length (rowCodes 4 (now (row .entry))))
+        × (now (buf .exit) ≡ put (now (buf .entry)) at (rowCodes 4 (now (row .entry))))
+        ⌝ }
+{
+    encode_rle_row(row, true, buf, at)
+}
+
+// Writes a row's codes and its end, and returns the place after it.
+fn rle_row(row: &[u8], four: bool, last: bool, buf: &mut [u8], at: usize) -> usize
+    requires { ⌜ at + length (rowCodes (depthOf four) (now row)) + 2 ≤ length (now buf) ⌝ }
+    ensures { λ r. ⌜
+        (r ≡ at + length (rowCodes (depthOf four) (now (row .entry))) + 2)
+        × (now (buf .exit) ≡ put (now (buf .entry)) at (rowCodes (depthOf four) (now (row .entry)) ++ (0 ∷ cond last 1 0 ∷ [])))
+        ⌝ }
+{
+    let o = encode_rle_row(row, four, buf, at);
+    buf[o] = 0;
+    buf[o + 1] = last as u8;
+    o + 2
+}
+
+// The stream's length, counted row by row in stored order as far as the budget. Each row's source is the
+// part of the plane that starts at its own offset.
+pub fn rle_len(
+    rle: Rle,
+    plane: &[u8],
+    stride: usize,
+    width: u32,
+    height: u32,
+    budget: usize,
+) -> StreamCount
+    requires { ⌜ width ≤ stride ⌝ }
+    requires { ⌜ stride * height ≤ length (now plane) ⌝ }
+    requires { ⌜ budget ≤ 2 ^ 32 ⌝ }
+    ensures { λ r. ⌜ r ≡ counted (length (stream (depthOf (isRle4 rle)) width height (now (plane .entry)) stride)) budget ⌝ }
+{
+    let four = rle.is_rle4();
+    let w = width as usize;
+    let h = height as usize;
+    let mut len: usize = 0;
+    let mut y: usize = 0;
+    while y < h {
+        if budget <= len {
+            return StreamCount::OverBudget;
+        }
+        let start = (h - 1 - y) * stride;
+        let end = start + w;
+        len = len + rle_row_len(&plane[start..end], four) + 2;
+        y += 1;
+    }
+    if len < budget {
+        return StreamCount::Under(len);
+    }
+    StreamCount::OverBudget
+}
+
+// Writes the stream from `at` on, and returns the place after it.
+pub fn rle_into(
+    rle: Rle,
+    plane: &[u8],
+    stride: usize,
+    width: u32,
+    height: u32,
+    buf: &mut [u8],
+    at: usize,
+) -> usize
+    requires { ⌜ width ≤ stride ⌝ }
+    requires { ⌜ stride * height ≤ length (now plane) ⌝ }
+    requires { ⌜ at + length (stream (depthOf (isRle4 rle)) width height (now plane) stride) ≤ length (now buf) ⌝ }
+    ensures { λ r. ⌜
+        (r ≡ at + length (stream (depthOf (isRle4 rle)) width height (now (plane .entry)) stride))
+        × (now (buf .exit) ≡ put (now (buf .entry)) at (stream (depthOf (isRle4 rle)) width height (now (plane .entry)) stride))
+        ⌝ }
+{
+    let four = rle.is_rle4();
+    let w = width as usize;
+    let h = height as usize;
+    let mut o = at;
+    let mut y: usize = 0;
+    while y < h {
+        let start = (h - 1 - y) * stride;
+        let end = start + w;
+        let last = y + 1 == h;
+        o = rle_row(&plane[start..end], four, last, buf, o);
+        y += 1;
+    }
+    o
+}
