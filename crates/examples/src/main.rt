@@ -1,14 +1,51 @@
-// Runs document 01's examples that the leaves decide, and prints what comes out: M9 (samples), M10 (row
-// stride), M11 (masks); then, for each width of 0 to 32 bits, the sum of all 256 samples fitted to it.
-ghost use Prim.Native.Nat.{_≤_};
+// Runs document 01's examples on the code and prints what comes out: M1 to M8 (row codes), M9 (samples),
+// M10 (row stride), M11 (masks); then, for each width of 0 to 32 bits, the sum of all 256 samples fitted
+// to it, and a checksum of the codes of all rows of 1 to 7 cells over the indices 0, 1 and 17.
+ghost use mathlib.Core.Path.{_≡_};
+ghost use Prim.Native.Nat.{_<_, _≤_};
+ghost use lib.ListN.{length};
 use leaves::bitfields::quantise;
 use leaves::bitfields::validate;
 use leaves::types::row_stride;
 use libc::STDOUT_FILENO;
+use rows::rle::encode_rle4_row;
+use rows::rle::encode_rle8_row;
 
 fn number(n: u64) {
     io::write_all(STDOUT_FILENO, b" ");
     io::print_decimal(STDOUT_FILENO, n);
+}
+
+fn bytes(buf: &[u8], n: usize)
+    requires { ⌜ n ≤ length (now buf) ⌝ }
+{
+    let mut i = 0;
+    while i < n {
+        io::write_all(STDOUT_FILENO, b" ");
+        io::print_hex(STDOUT_FILENO, buf[i] as u64, 2);
+        i += 1;
+    }
+}
+
+// A row's codes in a buffer of 512 bytes, which rows of at most 256 cells leave enough of.
+fn encode(row: &[u8], four: bool, buf: &mut [u8]) -> usize
+    requires { ⌜ length (now row) ≤ 256 ⌝ }
+    requires { ⌜ 512 ≤ length (now buf) ⌝ }
+    ensures { λ r. ⌜ r ≤ length (now (buf .exit)) ⌝ }
+{
+    if four {
+        return encode_rle4_row(row, buf, 0);
+    }
+    encode_rle8_row(row, buf, 0)
+}
+
+fn codes(row: &[u8], four: bool)
+    requires { ⌜ length (now row) ≤ 256 ⌝ }
+{
+    let mut space = [0u8; 512];
+    let buf: &mut [u8] = &mut space;
+    let n = encode(row, four, buf);
+    bytes(buf, n);
 }
 
 fn mask_check(bpp: u16, masks: [u32; 4]) {
@@ -36,8 +73,102 @@ fn fitted_sums() {
     }
 }
 
+// The hash of n bytes more.
+fn hashed(hash: u64, buf: &[u8], n: usize) -> u64
+    requires { ⌜ hash < 4294967291 ⌝ }
+    requires { ⌜ n ≤ length (now buf) ⌝ }
+    ensures { λ r. ⌜ r < 4294967291 ⌝ }
+{
+    let mut h = hash;
+    let mut i = 0;
+    while i < n {
+        h = (h * 257 + buf[i] as u64) % 4294967291;
+        i += 1;
+    }
+    h
+}
+
+// One of the three indices.
+fn index(digit: u32) -> u8 {
+    if digit == 0 {
+        return 0;
+    }
+    if digit == 1 {
+        return 1;
+    }
+    17
+}
+
+// The row whose cells are the digits of n to the base 3.
+fn nth_row(n: u32) -> [u8; 7]
+    ensures { λ r. ⌜ 7 ≡ length r ⌝ }
+{
+    let mut row = [0u8; 7];
+    let mut left = n;
+    let mut i = 0;
+    while i < 7 {
+        row[i] = index(left % 3);
+        left = left / 3;
+        i += 1;
+    }
+    row
+}
+
+// The hash of the codes of the rows of `width` cells, of which there are `count`.
+fn rows_hash(hash: u64, width: usize, count: u32, four: bool, buf: &mut [u8]) -> u64
+    requires { ⌜ hash < 4294967291 ⌝ }
+    requires { ⌜ width ≤ 7 ⌝ }
+    requires { ⌜ 512 ≤ length (now buf) ⌝ }
+    ensures { λ r. ⌜ r < 4294967291 ⌝ }
+    ensures { λ _. ⌜ length (now (buf .exit)) ≡ length (now (buf .entry)) ⌝ }
+{
+    let mut h = hash;
+    let mut n: u32 = 0;
+    while n < count {
+        let row = nth_row(n);
+        let len = encode(&row[..width], four, buf);
+        h = hashed(h, buf, len);
+        n += 1;
+    }
+    h
+}
+
+fn all_rows(four: bool) {
+    let mut space = [0u8; 512];
+    let buf: &mut [u8] = &mut space;
+    let mut h: u64 = 0;
+    let mut width: usize = 1;
+    let mut count: u32 = 3;
+    while width <= 7 {
+        h = rows_hash(h, width, count, four, buf);
+        width += 1;
+        count = count % 1000000 * 3;
+    }
+    number(h);
+}
+
+fn row_examples() {
+    io::write_all(STDOUT_FILENO, b"M1");
+    codes(&[5u8], false);
+    io::write_all(STDOUT_FILENO, b"\nM2");
+    codes(&[1u8, 2], false);
+    io::write_all(STDOUT_FILENO, b"\nM3");
+    codes(&[1u8, 2, 3], false);
+    io::write_all(STDOUT_FILENO, b"\nM4");
+    codes(&[1u8, 2, 3, 3], false);
+    io::write_all(STDOUT_FILENO, b"\nM5");
+    codes(&[7u8; 256], false);
+    io::write_all(STDOUT_FILENO, b"\nM6");
+    codes(&[1u8, 2], true);
+    io::write_all(STDOUT_FILENO, b"\nM7");
+    codes(&[1u8, 2, 3, 4, 5], true);
+    io::write_all(STDOUT_FILENO, b"\nM8");
+    codes(&[19u8, 3], true);
+}
+
 fn main() {
-    io::write_all(STDOUT_FILENO, b"M9");
+    row_examples();
+    io::write_all(STDOUT_FILENO, b"\nM9");
     number(quantise(255, 5) as u64);
     number(quantise(255, 10) as u64);
     number(quantise(255, 17) as u64);
@@ -50,5 +181,8 @@ fn main() {
     mask_check(16, [0, 0, 0, 0xFF00]);
     io::write_all(STDOUT_FILENO, b"\nfitted");
     fitted_sums();
+    io::write_all(STDOUT_FILENO, b"\nrows");
+    all_rows(false);
+    all_rows(true);
     io::write_all(STDOUT_FILENO, b"\n");
 }

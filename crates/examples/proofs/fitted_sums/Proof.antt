@@ -1,14 +1,7 @@
+use Prim.Native.Nat.{_-_, _/_, _≤_}
 use native.Mathlib.Omega.{arith}
-use lib.ListN.{length, length-set, getD}
-use Prim.Native.Nat.{ℕ, _+_, _-_, _*_, _/_, _%_, _≤_, _<_}
-use mathlib.Core.Path.{_≡_}
-use borrow.Author.Needs.{needs}
 use Rattle.examples.proofs.fitted_sums.Statement.{statement}
 use Rattle.examples.proofs.fitted_sums.Tie as tie
-use Rattle.examples.proofs.fitted_sums.Reads as reads
-use Rattle.examples.proofs.fitted_sums.Lts as lts
-use Rattle.examples.proofs.fitted_sum.Reads as fitted-sum-reads
-use Rattle.examples.proofs.number.Reads as number-reads
 
 abbrev Inv-loop : tie.InvT-loop
 Inv-loop n₀ n = n ≤ 33
@@ -16,31 +9,31 @@ Inv-loop n₀ n = n ≤ 33
 abbrev μ-loop : tie.MeasureT-loop
 μ-loop n₀ n = 33 - n
 
--- src/main.rt:33:5
+-- src/main.rt:70:5
 loop-holds : tie.Need-loop-holds Inv-loop μ-loop
 loop-holds c = omega arith
 
--- src/main.rt:34:16
+-- src/main.rt:71:16
 fitted-sum-requires : tie.Need-fitted-sum-requires Inv-loop μ-loop
 fitted-sum-requires c κs = omega arith
 
--- src/main.rt:34:9
+-- src/main.rt:71:9
 number-requires : tie.Need-number-requires Inv-loop μ-loop
 number-requires c κs = omega arith
 
--- src/main.rt:35:9
+-- src/main.rt:72:9
 add-n : tie.Need-add-n Inv-loop μ-loop
 add-n c = omega arith
 
--- src/main.rt:33:5
+-- src/main.rt:70:5
 loop-less : tie.Need-loop-less Inv-loop μ-loop
 loop-less c = omega arith
 
--- src/main.rt:33:5
+-- src/main.rt:70:5
 loop-again : tie.Need-loop-again Inv-loop μ-loop
 loop-again c = omega arith
 
--- src/main.rt:31:1
+-- src/main.rt:68:1
 returns : tie.Need-returns Inv-loop μ-loop
 returns c = omega arith
 
