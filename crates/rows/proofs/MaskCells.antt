@@ -8,6 +8,7 @@ use native.Mathlib.Nat.{zero-mul, suc-mul, mul-le-mul-right}
 use native.Mathlib.Numerals.{add-one}
 use native.Mathlib.Omega.{arith}
 use borrow.Author.Tests.{eq-eqb, ne-eqb}
+use lib.Arith.{lt-one}
 use lib.Bits.{bitOr}
 use lib.ListN.{length, getD, replicate}
 use lib.Pow.{shl-exact, mod-mod-pow, field as middle}
@@ -40,8 +41,10 @@ next-fits at x w k o e h = omega (arith, suc-mul x k, mul-le-mul-right k h)
 
 -- a channel of no bits adds nothing
 pub field-none : (ch : MaskShiftLen) (s : ℕ) → ch .len ≡ 0 → s < 256 → 0 ≡ field ch s
-unfolding field fit
-field-none ch s e h = let z : s / 256 ≡ 0 = omega arith in rw (e, z) (sym (zero-mul (2 ^ ch .shift)))
+unfolding field
+field-none ch s e h =
+    let z : fit (ch .len) s ≡ 0 = ap (λ (n : ℕ). fit n s) e ∙ lt-one (fit-lt 0 s h) in
+    rw z (sym (zero-mul (2 ^ ch .shift)))
 
 -- the shift in 32 bits loses no bit of a fitted sample
 pub field-some : (ch : MaskShiftLen) (s q : ℕ) → q ≡ fit (ch .len) s → s < 256 → ch .shift + ch .len ≤ 32 → q * 2 ^ ch .shift % 4294967296 ≡ field ch s

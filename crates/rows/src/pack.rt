@@ -3,7 +3,6 @@
 ghost use mathlib.Core.Path.{_≡_};
 ghost use mathlib.Core.Bool.{true};
 ghost use mathlib.Core.Logic.{_⊎_};
-ghost use mathlib.Core.List.{[], _∷_};
 ghost use Prim.Native.Nat.{_+_, _*_, _^_, _<_, _≤_};
 ghost use lib.ListN.{length, getD};
 ghost use Rattle.leaves.specs.Masks.{ShiftLen};
@@ -11,7 +10,7 @@ ghost use Rattle.leaves.specs.Put.{put};
 ghost use Rattle.leaves.specs.Sizes.{rowStride, hasTable};
 ghost use Rattle.rows.specs.Packing.{packedByte, packed};
 ghost use Rattle.rows.specs.declared.pack.RowPack.the-variants.{Bgra32, Bgr24, Words16, Masks};
-ghost use Rattle.rows.specs.StoredRows.{padded, cell24, cell32, field, maskWord, maskCell, storedRow, packBits, packBytes, LayoutOk, PackOk, storedRows};
+ghost use Rattle.rows.specs.StoredRows.{field, maskWord, storedRow, packBits, packBytes, LayoutOk, PackOk, storedRows};
 use leaves::bitfields::MaskShiftLen;
 use leaves::bitfields::mask_shift_len;
 use leaves::bitfields::quantise;

@@ -1,0 +1,33 @@
+-- What is known of an accepted call, in numbers and lists.
+use Prim.Native.Nat.{ℕ, _+_, _*_, _^_, _≤_, _<_}
+use mathlib.Core.Path.{_≡_}
+use mathlib.Core.Logic.{_⊎_}
+use mathlib.Core.Bool.{true, false}
+use mathlib.Core.List.{List}
+use lib.Bits.{bitAnd}
+use lib.ListN.{length, getD}
+use Rattle.leaves.specs.Formats.{bytesPerPixel}
+use Rattle.leaves.specs.Masks.{isOneRun}
+use Rattle.format.specs.Input.{Input}
+use Rattle.format.specs.File.{modeOf, maxFile, fileSize}
+use Rattle.format.specs.Refusals.{maskSource}
+
+-- masks that the check accepts
+pub record MasksAccepted (depth : ℕ) (masks : List ℕ) : Type 0 where
+  pub depths : (depth ≡ 16) ⊎ (depth ≡ 32)
+  pub inside : (k : ℕ) → k < 4 → getD masks k 0 < 2 ^ depth
+  pub runs : (k : ℕ) → k < 4 → isOneRun (getD masks k 0) ≡ true
+  pub apart : (j k : ℕ) → j < k → k < 4 → bitAnd (getD masks j 0) (getD masks k 0) ≡ 0
+
+pub record Accepted (i : Input) : Type 0 where
+  pub some-width : 0 < i .source .width
+  pub wide : i .source .width < 2147483648
+  pub some-height : 0 < i .source .height
+  pub tall : i .source .height < 2147483648
+  pub plane-bytes : (k : ℕ) → getD (i .plane) k 0 < 256
+  pub palette-bytes : (k : ℕ) → getD (i .palette) k 0 < 256
+  pub rows-inside : i .source .width * bytesPerPixel (i .source .format) ≤ i .source .stride
+  pub plane-long : i .source .stride * i .source .height ≤ length (i .plane)
+  pub masks : i .options .«has_bitfields» ≡ true → MasksAccepted (i .options .bitfields .bpp) (i .options .bitfields .masks)
+  pub samples : i .options .«has_bitfields» ≡ true → maskSource (i .source .format) ≡ false
+  pub fits : fileSize maxFile i ≤ maxFile

@@ -1,0 +1,9 @@
+pub mod Accepted
+pub mod Demand
+pub mod Expectation
+pub mod File
+pub mod Headers
+pub mod Input
+pub mod Readers
+pub mod Refusals
+pub mod Shown

@@ -1,0 +1,17 @@
+-- What a screen shows of a file: the words that the readers and the expectation share.
+use Prim.Native.Nat.{ℕ}
+use mathlib.Core.List.{List}
+
+-- "An index past the table is still an index; it has no colour": a cell is an index, or its channels' bits
+pub data Cell : Type 0 where
+  index : ℕ → Cell
+  rgb : ℕ → ℕ → ℕ → Cell
+  rgba : ℕ → ℕ → ℕ → ℕ → Cell
+
+pub record Shown : Type 0 where
+  pub width : ℕ
+  pub height : ℕ
+  -- red, green, blue
+  pub palette : List Cell
+  -- from the top, each from the left
+  pub rows : List (List Cell)
