@@ -1,1 +1,11 @@
+pub mod Acceptance
+pub mod Channels
 pub mod Examples
+pub mod FileSizes
+pub mod HeadFields
+pub mod HeadMasks
+pub mod HeadTable
+pub mod HeadWhole
+pub mod MaskedCells
+pub mod Passing
+pub mod PlainCells

@@ -91,10 +91,17 @@ abbrev pub rowAt : RowPack → ℕ → ℕ → Bool → List ℕ → ℕ → ℕ
 rowAt pack w h topDown plane stride s = storedRow pack w (sourceRow plane stride (w * packBytes pack) (rowOf topDown h s))
 
 -- stored rows have one length
-length-rowAt : (pack : RowPack) → PackOk pack → (w h : ℕ) (topDown : Bool) (plane : List ℕ) (stride s : ℕ)
+pub length-rowAt : (pack : RowPack) → PackOk pack → (w h : ℕ) (topDown : Bool) (plane : List ℕ) (stride s : ℕ)
     → length (rowAt pack w h topDown plane stride s) ≡ rowStride w (packBits pack)
 length-rowAt pack ok w h topDown plane stride s =
     length-storedRow pack ok w (sourceRow plane stride (w * packBytes pack) (rowOf topDown h s)) (simp length-take (omega arith))
+
+-- and so all of them together
+pub length-storedRows : (pack : RowPack) → PackOk pack → (w h : ℕ) (topDown : Bool) (plane : List ℕ) (stride : ℕ)
+    → length (storedRows pack w h topDown plane stride) ≡ h * rowStride w (packBits pack)
+unfolding storedRows
+length-storedRows pack ok w h topDown plane stride =
+    length-cat (rowAt pack w h topDown plane stride) (rowStride w (packBits pack)) h (λ s l. length-rowAt pack ok w h topDown plane stride s)
 
 -- one stored row more
 pub next-row : (pack : RowPack) → PackOk pack → (w h stride at y o from stored n : ℕ) (topDown : Bool) (plane d b e : List ℕ)

@@ -1,0 +1,133 @@
+-- The length of the stored rows, and the size of an accepted file.
+use mathlib.Core.Path.{_≡_, refl, sym, ap, _∙_}
+use mathlib.Core.Logic.{_⊎_, inl, inr}
+use mathlib.Core.Bool.{Bool, true, false, false≢true, cond, _&&_}
+use mathlib.Core.List.{List, []}
+use Prim.Native.Nat.{ℕ, _+_, _-_, _*_, _^_, _≤_, _<_, min}
+use native.Mathlib.Nat.{lt-of-lt-of-le, mul-comm}
+use native.Mathlib.Omega.{arith}
+use borrow.Author.Tests.{eqb-true, eqb-false, ltb-true}
+use lib.Count.{trailingZeros}
+use lib.Dec.{eqb, ltb}
+use lib.ListN.{length, getD}
+use lib.Pow.{pow-mono}
+use Rattle.leaves.specs.declared.image.BmpPixelFormat.{BmpPixelFormat}
+use Rattle.leaves.specs.declared.image.BmpPixelFormat.the-variants.{Rgba, Rgb24, Bgra, Bgr24, Rgb555, Rgb565, Pal8, Indexed4, Indexed2, Indexed1}
+use Rattle.leaves.specs.Formats.{bytesPerPixel, bitsPerPixel}
+use Rattle.leaves.specs.Masks.{count, lowest, isOneRun}
+use Rattle.leaves.specs.Sizes.{rowStride}
+use Rattle.rows.specs.StoredRows.{packBits, LayoutOk, PackOk}
+use Rattle.format.specs.Accepted.{MasksAccepted}
+use Rattle.format.specs.File.{Mode, masked, calibrated, profiled, plain, modeOf, depthIn, channelOf, layoutOf, plainPack, packIn, tailOf, rawBytes, headBytes, isPlain, rlePlanned, streamOf, budget, streamUsed, storedRowsOf, pixels, fileSize, plainSize}
+use Rattle.format.specs.Input.{Input}
+use Rattle.format.specs.Refusals.{maskSource}
+use Rattle.leaves.proofs.Runs.{ends-within, len-run, count-zero}
+use Rattle.rows.proofs.AllRows.{length-storedRows}
+
+-- a channel of a mask that is one run stays in the word
+channel-within : (m : ℕ) → m < 2 ^ 32 → isOneRun m ≡ true → channelOf m .shift + channelOf m .len ≤ 32
+unfolding lowest
+channel-within m h r = go (eqb m 0) refl
+  where
+    go : (b : Bool) → eqb m 0 ≡ b → cond b 0 (trailingZeros 32 m) + count m ≤ 32
+    go true e = omega (arith, ap count (eqb-true m 0 e), count-zero)
+    go false e =
+        let p : 0 < m = omega (arith, eqb-false m 0 e) in
+        omega (arith, ends-within m p h, len-run m p h r)
+
+layout-ok : (d : ℕ) (masks : List ℕ) → MasksAccepted d masks → LayoutOk (layoutOf d masks)
+unfolding layoutOf
+layout-ok d masks a =
+    record {
+      depth = a .depths;
+      red = within 0 (omega arith);
+      green = within 1 (omega arith);
+      blue = within 2 (omega arith);
+      alpha = within 3 (omega arith);
+    }
+  where
+    deep : (d ≡ 16) ⊎ (d ≡ 32) → d ≤ 32
+    deep (inl e) = omega arith
+    deep (inr e) = omega arith
+
+    within : (k : ℕ) → k < 4 → channelOf (getD masks k 0) .shift + channelOf (getD masks k 0) .len ≤ 32
+    within k h = channel-within (getD masks k 0) (lt-of-lt-of-le (a .inside k h) (pow-mono {j = 32} (deep (a .depths)))) (a .runs k h)
+
+-- pixels of the four sources that mask mode takes
+sample-bytes : (f : BmpPixelFormat) → maskSource f ≡ false → (bytesPerPixel f ≡ 3) ⊎ (bytesPerPixel f ≡ 4)
+sample-bytes Rgba e = inr refl
+sample-bytes Rgb24 e = inl refl
+sample-bytes Bgra e = inr refl
+sample-bytes Bgr24 e = inl refl
+sample-bytes Rgb555 e = absurd (false≢true (sym e))
+sample-bytes Rgb565 e = absurd (false≢true (sym e))
+sample-bytes Pal8 e = absurd (false≢true (sym e))
+sample-bytes Indexed4 e = absurd (false≢true (sym e))
+sample-bytes Indexed2 e = absurd (false≢true (sym e))
+sample-bytes Indexed1 e = absurd (false≢true (sym e))
+
+plain-ok : (f : BmpPixelFormat) → PackOk (plainPack f) × (packBits (plainPack f) ≡ bitsPerPixel f)
+plain-ok Rgba = (tt, refl)
+plain-ok Rgb24 = (tt, refl)
+plain-ok Bgra = (tt, refl)
+plain-ok Bgr24 = (tt, refl)
+plain-ok Rgb555 = (tt, refl)
+plain-ok Rgb565 = (tt, refl)
+plain-ok Pal8 = (refl, refl)
+plain-ok Indexed4 = (refl, refl)
+plain-ok Indexed2 = (refl, refl)
+plain-ok Indexed1 = (refl, refl)
+
+-- the pack of a call whose masks, if they are the mode, were accepted
+pub pack-ok : (mode : Mode) (i : Input) → (mode ≡ masked → MasksAccepted (i .options .bitfields .bpp) (i .options .bitfields .masks)) → (mode ≡ masked → maskSource (i .source .format) ≡ false)
+    → PackOk (packIn mode i) × (packBits (packIn mode i) ≡ depthIn mode i)
+unfolding packIn layoutOf
+pack-ok masked i a s = ((sample-bytes (i .source .format) (s refl), layout-ok (i .options .bitfields .bpp) (i .options .bitfields .masks) (a refl)), refl)
+pack-ok calibrated i a s = plain-ok (i .source .format)
+pack-ok profiled i a s = plain-ok (i .source .format)
+pack-ok plain i a s = plain-ok (i .source .format)
+
+-- "the raw bytes are the stored row's length × height"
+pub length-rows : (i : Input) → (modeOf i ≡ masked → MasksAccepted (i .options .bitfields .bpp) (i .options .bitfields .masks)) → (modeOf i ≡ masked → maskSource (i .source .format) ≡ false)
+    → length (storedRowsOf i) ≡ rawBytes i
+unfolding storedRowsOf rawBytes
+length-rows i a s =
+    let k = pack-ok (modeOf i) i a s in
+    length-storedRows (packIn (modeOf i) i) (k .0) (i .source .width) (i .source .height) (i .options .«top_down») (i .plane) (i .source .stride)
+    ∙ ap (λ (d : ℕ). i .source .height * rowStride (i .source .width) d) (k .1)
+    ∙ mul-comm (i .source .height) (rowStride (i .source .width) (depthIn (modeOf i) i))
+
+and-true : (a b : Bool) → (a && b) ≡ true → (a ≡ true) × (b ≡ true)
+and-true true b e = (refl, e)
+and-true false b e = absurd (false≢true e)
+
+-- the first of four tests that hold together
+and-true3 : (a b c d : Bool) → (a && b && c && d) ≡ true → (a && true) ≡ true
+and-true3 true b c d e = refl
+and-true3 false b c d e = absurd (false≢true e)
+
+-- a stream has no profile behind it
+stream-alone : (mode : Mode) (i : Input) → (isPlain mode && true) ≡ true → tailOf mode i ≡ []
+unfolding tailOf
+stream-alone masked i e = absurd (false≢true e)
+stream-alone calibrated i e = absurd (false≢true e)
+stream-alone profiled i e = absurd (false≢true e)
+stream-alone plain i e = refl
+
+-- a stream under the budget keeps the file in the limit
+coded-fits : (limit : ℕ) (i : Input) → streamUsed limit i ≡ true → headBytes i + length (streamOf i) + length (tailOf (modeOf i) i) ≤ limit
+unfolding streamUsed rlePlanned budget
+coded-fits limit i e =
+    let both = and-true (rlePlanned i) (ltb (length (streamOf i)) (budget limit i)) e in
+    let under : length (streamOf i) < min (rawBytes i) (limit + 1 - headBytes i) = ltb-true (length (streamOf i)) (budget limit i) (both .1) in
+    let alone : tailOf (modeOf i) i ≡ [] = stream-alone (modeOf i) i (and-true3 (isPlain (modeOf i)) _ _ _ (both .0)) in
+    omega (arith, ap length alone)
+
+-- a file whose plain form fits, or whose stream is under the budget, fits
+pub file-fits : (limit : ℕ) (i : Input) → length (storedRowsOf i) ≡ rawBytes i → (streamUsed limit i ≡ false → plainSize i ≤ limit) → fileSize limit i ≤ limit
+unfolding fileSize pixels plainSize
+file-fits limit i rows whole = go (streamUsed limit i) refl
+  where
+    go : (b : Bool) → streamUsed limit i ≡ b → headBytes i + length (cond b (streamOf i) (storedRowsOf i)) + length (tailOf (modeOf i) i) ≤ limit
+    go true e = coded-fits limit i e
+    go false e = omega (arith, whole e)

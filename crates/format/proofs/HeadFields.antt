@@ -1,0 +1,214 @@
+-- What the readers take from the first 54 bytes of a file, and where its pixels begin.
+use mathlib.Core.Path.{_≡_, refl, _∙_}
+use mathlib.Core.Logic.{_⊎_, inl, inr}
+use mathlib.Core.Bool.{Bool, true, false, cond}
+use mathlib.Core.List.{List, _++_, append-assoc}
+use Prim.Native.Nat.{ℕ, _+_, _-_, _*_, _/_, _%_, _≤_, _<_}
+use native.Mathlib.Omega.{arith}
+use borrow.Author.Tests.{ltb-true}
+use lib.Dec.{ltb, eqb}
+use lib.ListN.{length, drop, length-append}
+use lib.Seq.{drop-at}
+use Rattle.leaves.specs.declared.image.BmpPixelFormat.{BmpPixelFormat}
+use Rattle.leaves.specs.declared.image.BmpPixelFormat.the-variants.{Rgba, Rgb24, Bgra, Bgr24, Rgb555, Rgb565, Pal8, Indexed4, Indexed2, Indexed1}
+use Rattle.leaves.specs.Bytes.{le16, le32}
+use Rattle.leaves.specs.Formats.{bitsPerPixel}
+use Rattle.leaves.specs.Masks.{hasAlphaMask}
+use Rattle.leaves.specs.Refusals.{profileMode}
+use Rattle.leaves.specs.Sizes.{paletteEntryCount, clrUsed}
+use Rattle.format.specs.Headers.{fileHeader, infoHeader, v5Fields}
+use Rattle.format.specs.Input.{Input}
+use Rattle.format.specs.File.{Mode, masked, calibrated, profiled, plain, modeOf, tailOf, depthIn, entriesOf, tableEntry, colourTable, isRgb565, headerSize, headRest, headBytes, rawBytes, streamUsed, maxFile, pixels, storedHeight, compressionOf, imageSize, pelsPerMeter, headOf, fileSize, fileOf}
+use Rattle.format.specs.Accepted.{Accepted}
+use Rattle.format.specs.Readers.{wordAt, dwordAt, fieldsOf}
+use Rattle.leaves.proofs.ListLaws.{length-cat}
+use Rattle.leaves.proofs.TableCounts.{entries-le}
+
+-- ---- numbers
+
+-- four bytes, low byte first, are the number again
+pub dword-bytes : (v : ℕ) → v < 4294967296
+    → v % 256 + 256 * (v / 256 % 256) + 65536 * (v / 256 / 256 % 256 + 256 * (v / 256 / 256 / 256 % 256)) ≡ v
+dword-bytes v h = omega arith
+
+-- two bytes, low byte first, are the number again
+word-bytes : (v : ℕ) → v < 65536 → v % 256 + 256 * (v / 256 % 256) ≡ v
+word-bytes v h = omega arith
+
+-- ---- the first 54 bytes
+
+-- the fields of any two headers, whatever follows them
+first-fields : (size off hs w h d c im x y n : ℕ) (rest : List ℕ) → off < 4294967296 → hs < 4294967296 → w < 4294967296 → h < 4294967296 → d < 65536
+    → c < 4294967296 → n < 4294967296
+    → fieldsOf ((fileHeader size off ++ infoHeader hs w h d c im x y n) ++ rest)
+    ≡ record { offset = off; headerSize = hs; width = w; height = h; depth = d; compression = c; colours = n }
+unfolding fileHeader infoHeader le32 le16 fieldsOf dwordAt wordAt
+first-fields size off hs w h d c im x y n rest a b e g i j k = λ z. record {
+  offset = dword-bytes off a z;
+  headerSize = dword-bytes hs b z;
+  width = dword-bytes w e z;
+  height = dword-bytes h g z;
+  depth = word-bytes d i z;
+  compression = dword-bytes c j z;
+  colours = dword-bytes n k z;
+}
+
+-- ---- the numbers are small
+
+-- the masks' flag is the mode's
+flag-of : (a b c : Bool) → cond a masked (cond b calibrated (cond c profiled plain)) ≡ masked → a ≡ true
+flag-of true b c e = refl
+flag-of false true c e = cc
+flag-of false false true e = cc
+flag-of false false false e = cc
+
+pub masks-given : (i : Input) → modeOf i ≡ masked → i .options .«has_bitfields» ≡ true
+unfolding modeOf
+masks-given i e = flag-of (i .options .«has_bitfields») (i .options .«has_calibrated_rgb»)
+    (profileMode (i .source .«has_linked_icc») (i .source .«has_icc») (i .options .«embed_icc»)) e
+
+-- a choice of two small numbers is small
+choice-le : (b : Bool) (x y n : ℕ) → x ≤ n → y ≤ n → cond b x y ≤ n
+choice-le true x y n h k = h
+choice-le false x y n h k = k
+
+-- a header has at most 124 bytes
+header-le : (m : Mode) (f : BmpPixelFormat) → headerSize m f ≤ 124
+header-le masked f = omega arith
+header-le calibrated f = omega arith
+header-le profiled f = omega arith
+header-le plain f = choice-le (isRgb565 f) 108 40 124 (omega arith) (omega arith)
+
+-- a compression is at most 6
+compression-le : (m : Mode) (i : Input) → compressionOf maxFile m i ≤ 6
+unfolding compressionOf
+compression-le masked i = choice-le (hasAlphaMask (i .options .bitfields .masks)) 6 3 6 (omega arith) (omega arith)
+compression-le calibrated i = choice-le (isRgb565 (i .source .format)) 3 0 6 (omega arith) (omega arith)
+compression-le profiled i = choice-le (isRgb565 (i .source .format)) 3 0 6 (omega arith) (omega arith)
+compression-le plain i =
+    choice-le (streamUsed maxFile i) _ _ 6 (choice-le (eqb (bitsPerPixel (i .source .format)) 8) 1 2 6 (omega arith) (omega arith))
+    (choice-le (isRgb565 (i .source .format)) 3 0 6 (omega arith) (omega arith))
+
+-- a stored height has 32 bits
+height-lt : (down : Bool) (h : ℕ) → 0 < h → h < 2147483648 → cond down (4294967296 - h) h < 4294967296
+height-lt true h a b = omega arith
+height-lt false h a b = omega arith
+
+-- a source's depth is at most 32
+bits-le : (f : BmpPixelFormat) → bitsPerPixel f ≤ 32
+bits-le Rgba = omega arith
+bits-le Rgb24 = omega arith
+bits-le Bgra = omega arith
+bits-le Bgr24 = omega arith
+bits-le Rgb555 = omega arith
+bits-le Rgb565 = omega arith
+bits-le Pal8 = omega arith
+bits-le Indexed4 = omega arith
+bits-le Indexed2 = omega arith
+bits-le Indexed1 = omega arith
+
+-- an accepted depth is at most 32
+depth-le : (m : Mode) (i : Input) → (m ≡ masked → (i .options .bitfields .bpp ≡ 16) ⊎ (i .options .bitfields .bpp ≡ 32)) → depthIn m i ≤ 32
+depth-le masked i d = go (d refl)
+  where
+    go : (i .options .bitfields .bpp ≡ 16) ⊎ (i .options .bitfields .bpp ≡ 32) → i .options .bitfields .bpp ≤ 32
+    go (inl e) = omega arith
+    go (inr e) = omega arith
+depth-le calibrated i d = bits-le (i .source .format)
+depth-le profiled i d = bits-le (i .source .format)
+depth-le plain i d = bits-le (i .source .format)
+
+-- the count of colours is at most 256
+colours-le : (depth entries : ℕ) → clrUsed depth entries ≤ 256
+unfolding clrUsed
+colours-le depth entries = go (ltb entries (paletteEntryCount depth)) refl
+  where
+    go : (b : Bool) → ltb entries (paletteEntryCount depth) ≡ b → cond b entries 0 ≤ 256
+    go true e = omega (arith, ltb-true entries (paletteEntryCount depth) e, entries-le depth)
+    go false e = omega arith
+
+-- the head is no longer than the file
+head-le : (i : Input) → Accepted i → headBytes i ≤ 4294967295
+unfolding fileSize
+head-le i a = omega (arith, a .fits)
+
+-- ---- the parts
+
+-- the two headers, of a file of n bytes
+abbrev pub firstPart : Input → ℕ → List ℕ
+firstPart i n =
+    fileHeader n (headBytes i)
+    ++ infoHeader (headerSize (modeOf i) (i .source .format)) (i .source .width) (storedHeight i) (depthIn (modeOf i) i) (compressionOf maxFile (modeOf i) i)
+    (imageSize i) pelsPerMeter pelsPerMeter (clrUsed (depthIn (modeOf i) i) (entriesOf i))
+
+-- what stands between them and the table
+abbrev pub restPart : Input → List ℕ
+restPart i = headRest (modeOf i) i (headBytes i - 14 + rawBytes i)
+
+pub file-parts : (i : Input)
+    → fileOf maxFile i ≡ firstPart i (fileSize maxFile i) ++ (restPart i ++ (colourTable i ++ (pixels maxFile i ++ tailOf (modeOf i) i)))
+unfolding fileOf headOf
+file-parts i = simp append-assoc
+
+-- the two headers have 54 bytes
+pub first-length : (i : Input) (n : ℕ) → length (firstPart i n) ≡ 54
+unfolding fileHeader infoHeader le32 le16
+first-length i n = refl
+
+-- the bytes after the first 54 are as many wherever the profile begins
+pub rest-length : (m : Mode) (i : Input) (at : ℕ) → length (headRest m i at) ≡ length (headRest m i 0)
+unfolding headRest v5Fields le32
+rest-length masked i at = refl
+rest-length calibrated i at = refl
+rest-length profiled i at = simp length-append
+rest-length plain i at = refl
+
+-- the table has four bytes for each entry
+pub table-length : (i : Input) → length (colourTable i) ≡ 4 * entriesOf i
+unfolding colourTable tableEntry
+table-length i = length-cat (tableEntry (i .palette)) 4 (entriesOf i) (λ k l. refl) ∙ omega arith
+
+-- the head's bytes by its parts
+head-parts : (i : Input) (n : ℕ) → length (headOf maxFile i n) ≡ 54 + length (headRest (modeOf i) i 0) + 4 * entriesOf i
+unfolding headOf
+head-parts i n =
+    simp (length-append, rest-length (modeOf i) i (headBytes i - 14 + rawBytes i), table-length i) (omega (arith, simp length-append at (first-length i n)))
+
+-- the head has as many bytes as the offset says
+pub length-head : (i : Input) (n : ℕ) → length (headOf maxFile i n) ≡ headBytes i
+unfolding headBytes
+length-head i n = head-parts i n ∙ omega arith
+
+-- the pixels stand where the head ends
+pub pixels-at : (i : Input) → drop (headBytes i) (fileOf maxFile i) ≡ pixels maxFile i ++ tailOf (modeOf i) i
+unfolding fileOf
+pixels-at i =
+    rw append-assoc
+    (drop-at (headOf maxFile i (fileSize maxFile i)) (pixels maxFile i ++ tailOf (modeOf i) i) (headBytes i) (length-head i (fileSize maxFile i)))
+
+-- the file is as long as its size says
+pub length-file : (i : Input) → length (fileOf maxFile i) ≡ fileSize maxFile i
+unfolding fileOf fileSize
+length-file i = simp (length-append, length-head i (fileSize maxFile i)) (omega arith)
+
+-- ---- the file's fields
+
+pub fields-read : (i : Input) → Accepted i
+    → fieldsOf (fileOf maxFile i)
+    ≡ record {
+      offset = headBytes i;
+      headerSize = headerSize (modeOf i) (i .source .format);
+      width = i .source .width;
+      height = storedHeight i;
+      depth = depthIn (modeOf i) i;
+      compression = compressionOf maxFile (modeOf i) i;
+      colours = clrUsed (depthIn (modeOf i) i) (entriesOf i);
+    }
+fields-read i a =
+    rw (file-parts i)
+    (first-fields (fileSize maxFile i) (headBytes i) (headerSize (modeOf i) (i .source .format)) (i .source .width) (storedHeight i) (depthIn (modeOf i) i)
+    (compressionOf maxFile (modeOf i) i) (imageSize i) pelsPerMeter pelsPerMeter (clrUsed (depthIn (modeOf i) i) (entriesOf i))
+    (restPart i ++ (colourTable i ++ (pixels maxFile i ++ tailOf (modeOf i) i))) (omega (arith, head-le i a))
+    (omega (arith, header-le (modeOf i) (i .source .format))) (omega (arith, a .wide)) (height-lt (i .options .«top_down») (i .source .height) (a .some-height) (a .tall))
+    (omega (arith, depth-le (modeOf i) i (λ e. a .masks (masks-given i e) .depths))) (omega (arith, compression-le (modeOf i) i))
+    (omega (arith, colours-le (depthIn (modeOf i) i) (entriesOf i))))
