@@ -155,9 +155,10 @@ size-fits i large over used = go (rlePlanned i) (ltb (length (streamOf i)) (budg
 
 -- a call that no row of the table refuses
 pub accepted : (i : Input) (room offset : ℕ) → ((k : ℕ) → getD (i .plane) k 0 < 256) → ((k : ℕ) → getD (i .palette) k 0 < 256)
+    → length (i .options .«calibrated_rgb» .endpoints) ≡ 9 → length (i .options .«calibrated_rgb» .gamma) ≡ 3
     → firstOf (writeRows maxFile i room offset) ≡ Passed → Accepted i
 unfolding writeRows planRows
-accepted i room offset plane-bytes palette-bytes e =
+accepted i room offset plane-bytes palette-bytes nine three e =
     let w = i .source .width in
     let h = i .source .height in
     let dims = dimensionRows w h in
@@ -184,6 +185,8 @@ accepted i room offset plane-bytes palette-bytes e =
       tall = size .1 .1;
       plane-bytes = plane-bytes;
       palette-bytes = palette-bytes;
+      nine-endpoints = nine;
+      three-gammas = three;
       rows-inside = long .1;
       plane-long = long .0;
       masks = λ q. mask q .0;

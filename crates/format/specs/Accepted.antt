@@ -26,6 +26,9 @@ pub record Accepted (i : Input) : Type 0 where
   pub tall : i .source .height < 2147483648
   pub plane-bytes : (k : ℕ) → getD (i .plane) k 0 < 256
   pub palette-bytes : (k : ℕ) → getD (i .palette) k 0 < 256
+  -- the code has them as arrays of nine and of three
+  pub nine-endpoints : length (i .options .«calibrated_rgb» .endpoints) ≡ 9
+  pub three-gammas : length (i .options .«calibrated_rgb» .gamma) ≡ 3
   pub rows-inside : i .source .width * bytesPerPixel (i .source .format) ≤ i .source .stride
   pub plane-long : i .source .stride * i .source .height ≤ length (i .plane)
   pub masks : i .options .«has_bitfields» ≡ true → MasksAccepted (i .options .bitfields .bpp) (i .options .bitfields .masks)
