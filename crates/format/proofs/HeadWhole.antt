@@ -34,13 +34,13 @@ masked-end true p q r s = omega arith
 masked-end false p q r s = omega arith
 
 -- the other modes are not mask mode
-calibrated-other : calibrated ≡ masked → ⊥
+pub calibrated-other : calibrated ≡ masked → ⊥
 calibrated-other e = let z : _≡_ {A = ℕ} 0 1 = cc in omega arith
 
-profiled-other : profiled ≡ masked → ⊥
+pub profiled-other : profiled ≡ masked → ⊥
 profiled-other e = let z : _≡_ {A = ℕ} 0 1 = cc in omega arith
 
-plain-other : plain ≡ masked → ⊥
+pub plain-other : plain ≡ masked → ⊥
 plain-other e = let z : _≡_ {A = ℕ} 0 1 = cc in omega arith
 
 module _ (i : Input) (nine : length (i .options .«calibrated_rgb» .endpoints) ≡ 9) (three : length (i .options .«calibrated_rgb» .gamma) ≡ 3) where

@@ -7,5 +7,10 @@ pub mod HeadMasks
 pub mod HeadTable
 pub mod HeadWhole
 pub mod MaskedCells
+pub mod Opening
 pub mod Passing
+pub mod PlainBody
 pub mod PlainCells
+pub mod Readings
+pub mod SourceRows
+pub mod StreamBody

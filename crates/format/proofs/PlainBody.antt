@@ -1,0 +1,327 @@
+-- What the readers show of stored rows.
+use mathlib.Core.Path.{_≡_, refl, sym, ap, _∙_}
+use mathlib.Core.Bool.{Bool, true, false, cond, _||_}
+use mathlib.Core.List.{List, _++_}
+use Prim.Native.Nat.{ℕ, suc, _+_, _-_, _*_, _/_, _≤_, _<_}
+use native.Mathlib.Nat.{suc-mul, mul-le-mul-right, mul-comm}
+use native.Mathlib.Omega.{arith}
+use borrow.Author.Tests.{le-ltb, le-leb, lt-leb, eqb-false}
+use lib.Dec.{eqb, leb}
+use lib.ListN.{length, getD, drop}
+use lib.Seq.{drop-drop}
+use Rattle.leaves.specs.declared.image.BmpPixelFormat.{BmpPixelFormat}
+use Rattle.leaves.specs.declared.image.BmpPixelFormat.the-variants.{Rgba, Rgb24, Bgra, Bgr24, Rgb555, Rgb565, Pal8, Indexed4, Indexed2, Indexed1}
+use Rattle.leaves.specs.Formats.{bytesPerPixel, bitsPerPixel}
+use Rattle.leaves.specs.Lists.{tab}
+use Rattle.leaves.specs.Refusals.{profileMode}
+use Rattle.leaves.specs.Masks.{hasAlphaMask, maskCompression}
+use Rattle.leaves.specs.Sizes.{rowStride, clrUsed}
+use Rattle.rows.specs.StoredRows.{storedRow, storedRows, packBits, packBytes, rowOf, sourceRow}
+use Rattle.format.specs.Accepted.{Accepted}
+use Rattle.format.specs.Expectation.{pixelBytes, handed, plainlyShown, fittedShown, cellShown, paletteShown, expected}
+use Rattle.format.specs.File.{Mode, masked, calibrated, profiled, plain, modeOf, tailOf, depthIn, plainPack, packIn, isRgb565, headerSize, headBytes, rawBytes, entriesOf, streamOf, streamUsed, maxFile, storedRowsOf, pixels, storedHeight, compressionOf, fileSize, fileOf}
+use Rattle.format.specs.Input.{Input}
+use Rattle.format.specs.Readers.{shows, Fields, fieldsOf, topFirst, shownHeight, rowLength, cellWord, rgbCell, maskCell, plainCell, storedAt, paletteOf, picture, pixelNeeds, body}
+use Rattle.format.specs.Shown.{Cell, Shown}
+use Rattle.leaves.proofs.ListLaws.{tab-ext}
+use Rattle.rows.proofs.AllRows.{rowAt, length-rowAt, row-within}
+use Rattle.format.proofs.FileSizes.{pack-ok, length-rows}
+use Rattle.format.proofs.HeadFields.{masks-given, pixels-at, length-file, fields-read}
+use Rattle.format.proofs.HeadMasks.{ColourMasks, masks-read, alpha-read, rgb565-read}
+use Rattle.format.proofs.HeadTable.{palette-read}
+use Rattle.format.proofs.HeadWhole.{calibrated-other, profiled-other, plain-other}
+use Rattle.format.proofs.MaskedCells.{masked-cell}
+use Rattle.format.proofs.PlainCells.{length-row, plain-cell, rgb565-cell}
+use Rattle.format.proofs.SourceRows.{length-source, source-at, source-small, plainly-of, fitted-of, Begins, joined-at}
+
+-- ---- heights
+
+-- the sign of the stored height is the option
+pub top-first : (td : Bool) (h : ℕ) → 0 < h → h < 2147483648 → leb 2147483648 (cond td (4294967296 - h) h) ≡ td
+top-first true h p q = le-leb 2147483648 (4294967296 - h) (omega arith)
+top-first false h p q = lt-leb 2147483648 h (omega arith)
+
+-- and its magnitude the height
+pub magnitude : (td : Bool) (h : ℕ) → h < 2147483648 → cond td (4294967296 - cond td (4294967296 - h) h) (cond td (4294967296 - h) h) ≡ h
+magnitude true h q = omega arith
+magnitude false h q = refl
+
+-- the stored row of a shown row is stored, and is that row
+row-back : (td : Bool) (h y : ℕ) → y < h → rowOf td h (cond td y (h - 1 - y)) ≡ y
+row-back true h y l = refl
+row-back false h y l = omega arith
+
+row-stored : (td : Bool) (h y : ℕ) → y < h → cond td y (h - 1 - y) < h
+row-stored true h y l = l
+row-stored false h y l = omega arith
+
+-- ---- formats
+
+-- both counts of a pixel's source bytes
+bytes-alike : (f : BmpPixelFormat) → bytesPerPixel f ≡ pixelBytes f
+bytes-alike Rgba = refl
+bytes-alike Rgb24 = refl
+bytes-alike Bgra = refl
+bytes-alike Bgr24 = refl
+bytes-alike Rgb555 = refl
+bytes-alike Rgb565 = refl
+bytes-alike Pal8 = refl
+bytes-alike Indexed4 = refl
+bytes-alike Indexed2 = refl
+bytes-alike Indexed1 = refl
+
+plain-bytes : (f : BmpPixelFormat) → packBytes (plainPack f) ≡ bytesPerPixel f
+plain-bytes Rgba = refl
+plain-bytes Rgb24 = refl
+plain-bytes Bgra = refl
+plain-bytes Bgr24 = refl
+plain-bytes Rgb555 = refl
+plain-bytes Rgb565 = refl
+plain-bytes Pal8 = refl
+plain-bytes Indexed4 = refl
+plain-bytes Indexed2 = refl
+plain-bytes Indexed1 = refl
+
+pack-bytes : (m : Mode) (i : Input) → packBytes (packIn m i) ≡ bytesPerPixel (i .source .format)
+unfolding packIn
+pack-bytes masked i = refl
+pack-bytes calibrated i = plain-bytes (i .source .format)
+pack-bytes profiled i = plain-bytes (i .source .format)
+pack-bytes plain i = plain-bytes (i .source .format)
+
+-- the compression of rows without masks of the caller's
+abbrev rowCode : BmpPixelFormat → ℕ
+rowCode f = cond (isRgb565 f) 3 0
+
+-- the cell that a reader takes from a row
+abbrev cellIn : List ℕ → ℕ → ℕ → List ℕ → ℕ → Cell
+cellIn file c d row x = cond (eqb c 0) (rgbCell d row x) (maskCell file c (cellWord d row x))
+
+-- without masks, by the source
+plain-shown : (f : BmpPixelFormat) (file source rest : List ℕ) (w x : ℕ) → (f ≡ Rgb565 → ColourMasks file 0xF800 0x07E0 0x001F) → ((k : ℕ) → getD source k 0 < 256)
+    → length source ≡ w * bytesPerPixel f → x < w
+    → cellIn file (rowCode f) (bitsPerPixel f) (storedRow (plainPack f) w source ++ rest) x ≡ plainlyShown f (λ k. getD source (x * pixelBytes f + k) 0)
+plain-shown Rgba file source rest w x m small e l = plain-cell Rgba w source rest x refl small e l
+plain-shown Rgb24 file source rest w x m small e l = plain-cell Rgb24 w source rest x refl small e l
+plain-shown Bgra file source rest w x m small e l = plain-cell Bgra w source rest x refl small e l
+plain-shown Bgr24 file source rest w x m small e l = plain-cell Bgr24 w source rest x refl small e l
+plain-shown Rgb555 file source rest w x m small e l = plain-cell Rgb555 w source rest x refl small e l
+plain-shown Rgb565 file source rest w x m small e l =
+    rgb565-cell file w source rest x (m refl .red-mask) (m refl .green-mask) (m refl .blue-mask) small e l
+plain-shown Pal8 file source rest w x m small e l = plain-cell Pal8 w source rest x refl small e l
+plain-shown Indexed4 file source rest w x m small e l = plain-cell Indexed4 w source rest x refl small e l
+plain-shown Indexed2 file source rest w x m small e l = plain-cell Indexed2 w source rest x refl small e l
+plain-shown Indexed1 file source rest w x m small e l = plain-cell Indexed1 w source rest x refl small e l
+
+-- with masks the compression is not 0
+masked-code : (masks : List ℕ) → eqb (maskCompression masks) 0 ≡ false
+masked-code masks = go (hasAlphaMask masks)
+  where
+    go : (b : Bool) → eqb (cond b 6 3) 0 ≡ false
+    go true = refl
+    go false = refl
+
+-- and no row has a stream's
+masked-rows : (masks : List ℕ) → (eqb (maskCompression masks) 1 || eqb (maskCompression masks) 2) ≡ false
+masked-rows masks = go (hasAlphaMask masks)
+  where
+    go : (b : Bool) → (eqb (cond b 6 3) 1 || eqb (cond b 6 3) 2) ≡ false
+    go true = refl
+    go false = refl
+
+plain-rows : (b : Bool) → (eqb (cond b 3 0) 1 || eqb (cond b 3 0) 2) ≡ false
+plain-rows true = refl
+plain-rows false = refl
+
+-- ---- lengths
+
+-- a row's cells are no longer than the stored row
+cells-short : (n : ℕ) → (n + 7) / 8 ≤ (n + 31) / 32 * 4
+cells-short n = omega arith
+
+-- all rows but the last whole, and the last one's cells, are no longer than all rows
+needs-le : (o h w d len : ℕ) → o + rowStride w d * h ≤ len → cond (eqb h 0) 0 (o + (h - 1) * rowLength w d + (w * d + 7) / 8) ≤ len
+unfolding rowStride
+needs-le o h w d len k = rw (length-row d w) (go (eqb h 0) refl)
+  where
+    go : (b : Bool) → eqb h 0 ≡ b → cond b 0 (o + (h - 1) * rowStride w d + (w * d + 7) / 8) ≤ len
+    go true e = omega arith
+    go false e =
+        let r : ℕ = rowStride w d in
+        let q : h ≡ suc (h - 1) = omega (arith, eqb-false h 0 e) in
+        omega (arith, k, cells-short (w * d), suc-mul (h - 1) r, mul-comm r (suc (h - 1)), ap (λ (z : ℕ). r * z) q)
+
+-- ---- pictures
+
+-- a picture shows what it must if its parts are so
+pub picture-shown : (file : List ℕ) (t : Fields) (cell : ℕ → ℕ → Cell) (s : Shown) → t .width ≡ s .width → shownHeight t ≡ s .height → paletteOf file t ≡ s .palette
+    → tab (λ y. tab (λ x. cell (storedAt t y) x) (t .width)) (shownHeight t) ≡ s .rows → picture file t cell ≡ shows s
+unfolding picture
+picture-shown file t cell s w h p r = λ z. shows (record { width = w z; height = h z; palette = p z; rows = r z })
+
+-- ---- the call
+
+-- only mask mode has masks
+not-given : (i : Input) → (modeOf i ≡ masked → ⊥) → i .options .«has_bitfields» ≡ false
+unfolding modeOf
+not-given i never =
+    go (i .options .«has_bitfields»)
+    (cond (i .options .«has_calibrated_rgb») calibrated (cond (profileMode (i .source .«has_linked_icc») (i .source .«has_icc») (i .options .«embed_icc»)) profiled plain)) refl never
+  where
+    go : (b : Bool) (other : Mode) → i .options .«has_bitfields» ≡ b → (cond b masked other ≡ masked → ⊥) → i .options .«has_bitfields» ≡ false
+    go true other q n = absurd (n refl)
+    go false other q n = q
+
+-- what must be shown, by whether masks are given
+shown-by : (i : Input) (y x : ℕ) (b : Bool) → i .options .«has_bitfields» ≡ b
+    → cellShown i y x ≡ cond b (fittedShown (i .source .format) (i .options .bitfields .masks) (handed i y x)) (plainlyShown (i .source .format) (handed i y x))
+unfolding cellShown
+shown-by i y x b e = ap (λ (z : Bool). cond z (fittedShown (i .source .format) (i .options .bitfields .masks) (handed i y x)) (plainlyShown (i .source .format) (handed i y x))) e
+
+module _ (i : Input) (a : Accepted i) (no : streamUsed maxFile i ≡ false) where
+  abbrev file : List ℕ
+  file = fileOf maxFile i
+
+  -- the source row that is row y of the picture
+  abbrev sourceIn : ℕ → List ℕ
+  sourceIn y = sourceRow (i .plane) (i .source .stride) (i .source .width * bytesPerPixel (i .source .format)) y
+
+  -- a row's pixels are in the plane
+  inside : (y : ℕ) → y < i .source .height → y * i .source .stride + i .source .width * bytesPerPixel (i .source .format) ≤ length (i .plane)
+  inside y l =
+      row-within y (i .source .height) (i .source .stride) (i .source .width) (bytesPerPixel (i .source .format)) (bytesPerPixel (i .source .format)) (length (i .plane)) l refl
+      (a .rows-inside) (a .plane-long)
+
+  -- byte k of pixel x of the source row is the byte handed in
+  handed-byte : (y x k : ℕ) → x < i .source .width → k < pixelBytes (i .source .format) → getD (sourceIn y) (x * pixelBytes (i .source .format) + k) 0 ≡ handed i y x k
+  unfolding handed
+  handed-byte y x k l m =
+      let n : ℕ = pixelBytes (i .source .format) in
+      let same : bytesPerPixel (i .source .format) ≡ n = bytes-alike (i .source .format) in
+      source-at (i .plane) (i .source .stride) (i .source .width * bytesPerPixel (i .source .format)) y (x * n + k)
+      (rw same (omega (arith, suc-mul x n, mul-le-mul-right n l)))
+      ∙ ap (λ (z : ℕ). getD (i .plane) z 0) (omega arith)
+
+  -- the rows stand where the head ends
+  rows-there : drop (headBytes i) file ≡ storedRowsOf i ++ tailOf (modeOf i) i
+  unfolding pixels fileOf
+  rows-there = pixels-at i ∙ rw no
+
+  -- the stored row s
+  row-there : (s : ℕ) → s < i .source .height
+      → Begins (drop (headBytes i + s * rowLength (i .source .width) (depthIn (modeOf i) i)) file)
+      (storedRow (packIn (modeOf i) i) (i .source .width) (sourceIn (rowOf (i .options .«top_down») (i .source .height) s)))
+  unfolding storedRowsOf storedRows
+  row-there s l =
+      let ok = pack-ok (modeOf i) i (λ e. a .masks (masks-given i e)) (λ e. a .samples (masks-given i e)) in
+      let n : rowLength (i .source .width) (depthIn (modeOf i) i) ≡ rowStride (i .source .width) (packBits (packIn (modeOf i) i))
+      = length-row (depthIn (modeOf i) i) (i .source .width) ∙ ap (rowStride (i .source .width)) (sym (ok .1)) in
+      rw (n, ← drop-drop (s * rowStride (i .source .width) (packBits (packIn (modeOf i) i))) (headBytes i) file, rows-there, ← pack-bytes (modeOf i) i)
+      (joined-at (rowAt (packIn (modeOf i) i) (i .source .width) (i .source .height) (i .options .«top_down») (i .plane) (i .source .stride))
+      (rowStride (i .source .width) (packBits (packIn (modeOf i) i))) (i .source .height) s (tailOf (modeOf i) i)
+      (length-rowAt (packIn (modeOf i) i) (ok .0) (i .source .width) (i .source .height) (i .options .«top_down») (i .plane) (i .source .stride)) l)
+
+  -- a cell of a row that begins with the stored row, by the mode
+  cell-plain : (y x : ℕ) (rest : List ℕ) → (modeOf i ≡ masked → ⊥) → y < i .source .height → x < i .source .width
+      → cellIn file (rowCode (i .source .format)) (bitsPerPixel (i .source .format)) (storedRow (plainPack (i .source .format)) (i .source .width) (sourceIn y) ++ rest) x
+      ≡ cellShown i y x
+  cell-plain y x rest never l m =
+      plain-shown (i .source .format) file (sourceIn y) rest (i .source .width) x (rgb565-read i a)
+      (source-small (i .plane) (i .source .stride) (i .source .width * bytesPerPixel (i .source .format)) y (a .plane-bytes))
+      (length-source (i .plane) (i .source .stride) (i .source .width * bytesPerPixel (i .source .format)) y (inside y l)) m
+      ∙ plainly-of (i .source .format) _ (handed i y x) (λ k o. handed-byte y x k m o)
+      ∙ sym (shown-by i y x false (not-given i never))
+
+  cell-mode : (m : Mode) → modeOf i ≡ m → (y x : ℕ) (rest : List ℕ) → y < i .source .height → x < i .source .width
+      → cellIn file (compressionOf maxFile m i) (depthIn m i) (storedRow (packIn m i) (i .source .width) (sourceIn y) ++ rest) x ≡ cellShown i y x
+  unfolding compressionOf packIn
+  cell-mode masked e y x rest l m =
+      let given : i .options .«has_bitfields» ≡ true = masks-given i e in
+      let read = masks-read i a e in
+      rw (masked-code (i .options .bitfields .masks))
+      (masked-cell (i .source .format) (i .options .bitfields .bpp) (i .options .bitfields .masks) file (sourceIn y) rest (i .source .width) x (a .samples given) (a .masks given)
+      (read .red-mask) (read .green-mask) (read .blue-mask) (alpha-read i a e)
+      (source-small (i .plane) (i .source .stride) (i .source .width * bytesPerPixel (i .source .format)) y (a .plane-bytes))
+      (length-source (i .plane) (i .source .stride) (i .source .width * bytesPerPixel (i .source .format)) y (inside y l)) m
+      ∙ fitted-of (i .source .format) (i .options .bitfields .masks) _ (handed i y x) (λ k o. handed-byte y x k m o)
+      ∙ sym (shown-by i y x true given))
+  cell-mode calibrated e y x rest l m = cell-plain y x rest (λ q. calibrated-other (sym e ∙ q)) l m
+  cell-mode profiled e y x rest l m = cell-plain y x rest (λ q. profiled-other (sym e ∙ q)) l m
+  cell-mode plain e y x rest l m = rw no (cell-plain y x rest (λ q. plain-other (sym e ∙ q)) l m)
+
+  -- rows have no stream's compression
+  rows-code : (m : Mode) → (eqb (compressionOf maxFile m i) 1 || eqb (compressionOf maxFile m i) 2) ≡ false
+  unfolding compressionOf
+  rows-code masked = masked-rows (i .options .bitfields .masks)
+  rows-code calibrated = plain-rows (isRgb565 (i .source .format))
+  rows-code profiled = plain-rows (isRgb565 (i .source .format))
+  rows-code plain = rw no (plain-rows (isRgb565 (i .source .format)))
+
+  -- the fields, named
+  abbrev fields : Fields
+  fields =
+      record {
+        offset = headBytes i;
+        headerSize = headerSize (modeOf i) (i .source .format);
+        width = i .source .width;
+        height = storedHeight i;
+        depth = depthIn (modeOf i) i;
+        compression = compressionOf maxFile (modeOf i) i;
+        colours = clrUsed (depthIn (modeOf i) i) (entriesOf i);
+      }
+
+  top : topFirst fields ≡ i .options .«top_down»
+  top = top-first (i .options .«top_down») (i .source .height) (a .some-height) (a .tall)
+
+  tall : shownHeight fields ≡ i .source .height
+  tall =
+      ap (λ (b : Bool). cond b (4294967296 - storedHeight i) (storedHeight i)) top
+      ∙ magnitude (i .options .«top_down») (i .source .height) (a .tall)
+
+  -- the stored row of row y
+  stored : (y : ℕ) → storedAt fields y ≡ cond (i .options .«top_down») y (i .source .height - 1 - y)
+  stored y = (λ z. cond (top z) y (tall z - 1 - y))
+
+  -- every cell
+  cell-shown : (y x : ℕ) → y < i .source .height → x < i .source .width → plainCell file fields (storedAt fields y) x ≡ cellShown i y x
+  unfolding plainCell
+  cell-shown y x l m =
+      let s : ℕ = cond (i .options .«top_down») y (i .source .height - 1 - y) in
+      let from = row-there s (row-stored (i .options .«top_down») (i .source .height) y l) in
+      ap (λ (n : ℕ). plainCell file fields n x) (stored y)
+      ∙ ap (λ (row : List ℕ). cellIn file (compressionOf maxFile (modeOf i) i) (depthIn (modeOf i) i) row x) (from .is)
+      ∙ ap (λ (n : ℕ). cellIn file (compressionOf maxFile (modeOf i) i) (depthIn (modeOf i) i) (storedRow (packIn (modeOf i) i) (i .source .width) (sourceIn n) ++ from .rest) x)
+      (row-back (i .options .«top_down») (i .source .height) y l)
+      ∙ cell-mode (modeOf i) refl y x (from .rest) l m
+
+  -- the file has all rows
+  file-long : headBytes i + rowStride (i .source .width) (depthIn (modeOf i) i) * i .source .height ≤ length file
+  unfolding fileSize pixels rawBytes
+  file-long =
+      let rows : length (cond (streamUsed maxFile i) (streamOf i) (storedRowsOf i)) ≡ rawBytes i
+      = ap (λ (b : Bool). length (cond b (streamOf i) (storedRowsOf i))) no
+      ∙ length-rows i (λ e. a .masks (masks-given i e)) (λ e. a .samples (masks-given i e)) in
+      omega (arith, length-file i, rows)
+
+  -- the last row's cells are in the file
+  rows-long : pixelNeeds fields ≤ length file
+  unfolding pixelNeeds
+  rows-long =
+      let d : ℕ = depthIn (modeOf i) i in
+      let w : ℕ = i .source .width in
+      rw (ap (λ (n : ℕ). cond (eqb n 0) 0 (headBytes i + (n - 1) * rowLength w d + (w * d + 7) / 8)) tall)
+      (needs-le (headBytes i) (i .source .height) w d (length file) (omega (arith, file-long)))
+
+  -- the palette
+  colours : paletteOf file fields ≡ paletteShown i
+  colours = ap (paletteOf file) (sym (fields-read i a)) ∙ palette-read i a (a .nine-endpoints) (a .three-gammas)
+
+  -- what the readers show of stored rows is what must be shown
+  pub plain-body : body file (fieldsOf file) ≡ shows (expected i)
+  unfolding body expected
+  plain-body =
+      rw (fields-read i a, rows-code (modeOf i), le-ltb (length file) (pixelNeeds fields) rows-long)
+      (picture-shown file fields (plainCell file fields) (expected i) refl tall colours
+      (tab-ext (λ y. tab (λ x. plainCell file fields (storedAt fields y) x) (i .source .width)) (λ y. tab (λ x. cellShown i y x) (i .source .width)) (shownHeight fields)
+      (λ y l. tab-ext _ _ (i .source .width) (λ x m. cell-shown y x (omega (arith, l, tall)) m))
+      ∙ ap (tab (λ y. tab (λ x. cellShown i y x) (i .source .width))) tall))

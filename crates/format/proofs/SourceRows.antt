@@ -1,0 +1,84 @@
+-- Source rows as the readers meet them again: their bytes, and where each stored row stands.
+use mathlib.Core.Path.{_≡_, refl, _∙_}
+use mathlib.Core.Logic.{_⊎_, inl, inr}
+use mathlib.Core.List.{List, [], _∷_, _++_, append-assoc}
+use Prim.Native.Nat.{ℕ, zero, suc, _+_, _-_, _*_, _≤_, _<_}
+use native.Mathlib.Nat.{not-suc-le-zero, le-of-suc-le-suc, eq-or-lt-of-le}
+use native.Mathlib.Omega.{arith}
+use lib.ListN.{length, getD, take, drop, length-take, length-drop}
+use lib.Seq.{getD-take, getD-drop, drop-at}
+use Rattle.leaves.specs.declared.image.BmpPixelFormat.{BmpPixelFormat}
+use Rattle.leaves.specs.declared.image.BmpPixelFormat.the-variants.{Rgba, Rgb24, Bgra, Bgr24, Rgb555, Rgb565, Pal8, Indexed4, Indexed2, Indexed1}
+use Rattle.leaves.specs.Lists.{cat}
+use Rattle.rows.specs.StoredRows.{sourceRow}
+use Rattle.format.specs.Expectation.{pixelBytes, plainlyShown, fittedShown}
+use Rattle.leaves.proofs.ListLaws.{length-cat}
+
+-- ---- bytes of a source row
+
+-- a source row is as long as its pixels
+pub length-source : (plane : List ℕ) (stride n y : ℕ) → y * stride + n ≤ length plane → length (sourceRow plane stride n y) ≡ n
+length-source plane stride n y h = length-take n (drop (y * stride) plane) ∙ omega (arith, length-drop (y * stride) plane)
+
+-- byte k of it, counted in the plane
+pub source-at : (plane : List ℕ) (stride n y k : ℕ) → k < n → getD (sourceRow plane stride n y) k 0 ≡ getD plane (y * stride + k) 0
+source-at plane stride n y k h = getD-take n (drop (y * stride) plane) k 0 h ∙ getD-drop (y * stride) plane k 0
+
+-- what is true of all places of a list and of 0 is true of all places of its beginnings
+take-small : (n : ℕ) (xs : List ℕ) (b : ℕ) → 0 < b → ((k : ℕ) → getD xs k 0 < b) → (k : ℕ) → getD (take n xs) k 0 < b
+take-small zero xs b p h k = p
+take-small (suc n) [] b p h k = p
+take-small (suc n) (x ∷ xs) b p h zero = h 0
+take-small (suc n) (x ∷ xs) b p h (suc k) = take-small n xs b p (λ j. h (suc j)) k
+
+-- its bytes are bytes
+pub source-small : (plane : List ℕ) (stride n y : ℕ) → ((k : ℕ) → getD plane k 0 < 256) → (k : ℕ) → getD (sourceRow plane stride n y) k 0 < 256
+source-small plane stride n y h = take-small n (drop (y * stride) plane) 256 (omega arith) (λ k. rw (getD-drop (y * stride) plane k 0) (h (y * stride + k)))
+
+-- what must be shown of a pixel depends on its own bytes alone
+pub plainly-of : (f : BmpPixelFormat) (a b : ℕ → ℕ) → ((k : ℕ) → k < pixelBytes f → a k ≡ b k) → plainlyShown f a ≡ plainlyShown f b
+unfolding plainlyShown
+plainly-of Rgba a b e = rw (e 0 (omega arith), e 1 (omega arith), e 2 (omega arith))
+plainly-of Rgb24 a b e = rw (e 0 (omega arith), e 1 (omega arith), e 2 (omega arith))
+plainly-of Bgra a b e = rw (e 0 (omega arith), e 1 (omega arith), e 2 (omega arith))
+plainly-of Bgr24 a b e = rw (e 0 (omega arith), e 1 (omega arith), e 2 (omega arith))
+plainly-of Rgb555 a b e = rw (e 0 (omega arith), e 1 (omega arith))
+plainly-of Rgb565 a b e = rw (e 0 (omega arith), e 1 (omega arith))
+plainly-of Pal8 a b e = rw (e 0 (omega arith))
+plainly-of Indexed4 a b e = rw (e 0 (omega arith))
+plainly-of Indexed2 a b e = rw (e 0 (omega arith))
+plainly-of Indexed1 a b e = rw (e 0 (omega arith))
+
+pub fitted-of : (f : BmpPixelFormat) (masks : List ℕ) (a b : ℕ → ℕ) → ((k : ℕ) → k < pixelBytes f → a k ≡ b k) → fittedShown f masks a ≡ fittedShown f masks b
+unfolding fittedShown
+fitted-of Rgba masks a b e = rw (e 0 (omega arith), e 1 (omega arith), e 2 (omega arith), e 3 (omega arith))
+fitted-of Rgb24 masks a b e = rw (e 0 (omega arith), e 1 (omega arith), e 2 (omega arith))
+fitted-of Bgra masks a b e = rw (e 0 (omega arith), e 1 (omega arith), e 2 (omega arith), e 3 (omega arith))
+fitted-of Bgr24 masks a b e = rw (e 0 (omega arith), e 1 (omega arith), e 2 (omega arith))
+fitted-of Rgb555 masks a b e = refl
+fitted-of Rgb565 masks a b e = refl
+fitted-of Pal8 masks a b e = refl
+fitted-of Indexed4 masks a b e = refl
+fitted-of Indexed2 masks a b e = refl
+fitted-of Indexed1 masks a b e = refl
+
+-- ---- places of stored rows
+
+-- a list that begins with another
+pub record Begins (xs ys : List ℕ) : Type 0 where
+  pub rest : List ℕ
+  pub is : xs ≡ ys ++ rest
+
+-- of lists of one length joined, number s stands s lengths on
+pub joined-at : (f : ℕ → List ℕ) (n h s : ℕ) (rest : List ℕ) → ((k : ℕ) → length (f k) ≡ n) → s < h → Begins (drop (s * n) (cat f h ++ rest)) (f s)
+unfolding cat
+joined-at f n zero s rest e l = absurd (not-suc-le-zero l)
+joined-at f n (suc h) s rest e l = go (eq-or-lt-of-le (le-of-suc-le-suc l)) (joined-at f n h s (f h ++ rest) e)
+  where
+    go : (s ≡ h) ⊎ (s < h) → (s < h → Begins (drop (s * n) (cat f h ++ (f h ++ rest))) (f s)) → Begins (drop (s * n) (cat f h ++ f h ++ rest)) (f s)
+    go (inl q) before =
+        record {
+          rest = rest;
+          is = rw (q, append-assoc (cat f h) (f h) rest) (drop-at (cat f h) (f h ++ rest) (h * n) (length-cat f n h (λ k _. e k)));
+        }
+    go (inr m) before = rw (append-assoc (cat f h) (f h) rest) (before m)

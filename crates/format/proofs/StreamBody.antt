@@ -1,0 +1,184 @@
+-- What the readers show of a stream.
+use mathlib.Core.Path.{_≡_, refl, sym, ap, _∙_}
+use mathlib.Core.Logic.{_⊎_, inl, inr}
+use mathlib.Core.Bool.{Bool, true, false, not, cond, false≢true, _&&_, _||_}
+use mathlib.Core.List.{List, [], _++_}
+use Prim.Native.Nat.{ℕ, zero, suc, _+_, _-_, _*_, _%_, _^_, _≤_, _<_}
+use native.Mathlib.Omega.{arith}
+use borrow.Author.Tests.{lt-leb}
+use lib.Dec.{ltb, leb, eqb}
+use lib.ListN.{length, getD, drop, length-drop}
+use lib.Seq.{getD-take, getD-drop, length-take-le}
+use Rattle.leaves.specs.declared.image.BmpPixelFormat.{BmpPixelFormat}
+use Rattle.leaves.specs.declared.image.BmpPixelFormat.the-variants.{Rgba, Rgb24, Bgra, Bgr24, Rgb555, Rgb565, Pal8, Indexed4, Indexed2, Indexed1}
+use Rattle.leaves.specs.Formats.{bitsPerPixel, bytesPerPixel}
+use Rattle.leaves.specs.Lists.{tab, cat}
+use Rattle.leaves.specs.Refusals.{profileMode}
+use Rattle.rows.specs.Decode.{filled, decode}
+use Rattle.rows.specs.RleCodes.{cells}
+use Rattle.rows.specs.StoredRows.{rowOf, sourceRow}
+use Rattle.rows.specs.Stream.{stream}
+use Rattle.format.specs.Accepted.{Accepted}
+use Rattle.format.specs.Expectation.{pixelBytes, handed, plainlyShown, cellShown, expected}
+use Rattle.format.specs.File.{Mode, masked, calibrated, profiled, plain, modeOf, tailOf, depthIn, headBytes, coded, isPlain, rlePlanned, streamOf, maxFile, budget, streamUsed, pixels, compressionOf, fileOf}
+use Rattle.format.specs.Input.{Input}
+use Rattle.format.specs.Readers.{Fields, fieldsOf, shownHeight, storedAt, paletteOf, picture, streamed, body, shows}
+use Rattle.format.specs.Shown.{Cell, index}
+use Rattle.leaves.proofs.ListLaws.{tab-ext, getD-cat}
+use Rattle.rows.proofs.AllRows.{row-within}
+use Rattle.rows.proofs.Decoding.{decode-stream}
+use Rattle.rows.proofs.Scans.{length-cells, cell-at}
+use Rattle.format.proofs.HeadFields.{pixels-at, fields-read}
+use Rattle.format.proofs.HeadTable.{palette-read}
+
+-- ---- any stream
+
+-- the cells that a stream fills, in stored order
+abbrev allCells : ℕ → ℕ → ℕ → List ℕ → ℕ → List ℕ
+allCells d w h plane stride = cat (λ s. cells d (sourceRow plane stride w (rowOf false h s))) h
+
+module _ (d w h : ℕ) (plane : List ℕ) (stride : ℕ) (inside : w * 1 ≤ stride) (long : stride * h ≤ length plane) where
+  -- every row of the plane is whole
+  whole-row : (s : ℕ) → s < h → length (sourceRow plane stride w (rowOf false h s)) ≡ w
+  whole-row s l =
+      let from : h - 1 - s < h = omega arith in
+      length-take-le w (drop ((h - 1 - s) * stride) plane)
+      (omega (arith, length-drop ((h - 1 - s) * stride) plane, row-within (h - 1 - s) h stride w 1 1 (length plane) from refl inside long))
+
+  -- the cell that is shown at x in row y is the index handed in there, cut to the depth
+  cell-filled : (y x : ℕ) → y < h → x < w → getD (allCells d w h plane stride) ((h - 1 - y) * w + x) 0 ≡ getD plane (y * stride + x * 1 + 0) 0 % 2 ^ d
+  cell-filled y x l k =
+      let below : h - 1 - y < h = omega arith in
+      let back : h - 1 - (h - 1 - y) ≡ y = omega arith in
+      let place : y * stride + x ≡ y * stride + x * 1 + 0 = omega arith in
+      getD-cat (λ s. cells d (sourceRow plane stride w (rowOf false h s))) w h (h - 1 - y) x 0
+      (λ s m. length-cells d (sourceRow plane stride w (rowOf false h s)) ∙ whole-row s m) k below
+      ∙ cell-at d (sourceRow plane stride w (rowOf false h (h - 1 - y))) x
+      ∙ ap (λ (z : ℕ). z % 2 ^ d)
+      (getD-take w (drop ((h - 1 - (h - 1 - y)) * stride) plane) x 0 k
+      ∙ getD-drop ((h - 1 - (h - 1 - y)) * stride) plane x 0
+      ∙ ap (λ (z : ℕ). getD plane (z * stride + x) 0) back
+      ∙ ap (λ (z : ℕ). getD plane z 0) place)
+
+-- the stream is read as the cells of its rows
+stream-read : (d w h : ℕ) (plane : List ℕ) (stride : ℕ) (rest : List ℕ) → (d ≡ 4) ⊎ (d ≡ 8) → 0 < h → w * 1 ≤ stride → stride * h ≤ length plane
+    → decode d w (stream d w h plane stride ++ rest) w (h - 1) [] ≡ filled (allCells d w h plane stride)
+stream-read d w zero plane stride rest deep some inside long = absurd (omega arith)
+stream-read d w (suc m) plane stride rest deep some inside long =
+    let e : suc m - 1 ≡ m = omega arith in
+    ap (λ (n : ℕ). decode d w (stream d w (suc m) plane stride ++ rest) w n []) e
+    ∙ decode-stream d deep w plane stride m (whole-row d w (suc m) plane stride inside long) rest
+
+-- a reader that finds the stream shows the indices of the plane
+body-read : (file : List ℕ) (t : Fields) (d w h : ℕ) (plane : List ℕ) (stride : ℕ) (rest : List ℕ) (cell : ℕ → ℕ → Cell)
+    → (d ≡ 4) ⊎ (d ≡ 8) → 0 < h → h < 2147483648 → w * 1 ≤ stride → stride * h ≤ length plane
+    → t .width ≡ w → t .height ≡ h → t .depth ≡ d → (eqb (t .compression) 1 || eqb (t .compression) 2) ≡ true
+    → drop (t .offset) file ≡ stream d w h plane stride ++ rest
+    → ((y x : ℕ) → cell y x ≡ index (getD plane (y * stride + x * 1 + 0) 0 % 2 ^ d))
+    → body file t ≡ shows (record { width = w; height = h; palette = paletteOf file t; rows = tab (λ y. tab (λ x. cell y x) w) h })
+unfolding body streamed picture
+body-read file t d w h plane stride rest cell deep some tall inside long wide high bits kind at shown =
+    let up : leb 2147483648 h ≡ false = lt-leb 2147483648 h tall in
+    let all : shownHeight t ≡ h = rw (high, up) in
+    let found : decode (t .depth) (t .width) (drop (t .offset) file) (t .width) (shownHeight t - 1) [] ≡ filled (allCells d w h plane stride)
+    = rw (high, up, bits, wide, at) (stream-read d w h plane stride rest deep some inside long) in
+    let rows : tab (λ y. tab (λ x. index (getD (allCells d w h plane stride) (storedAt t y * t .width + x) 0)) (t .width)) (shownHeight t)
+    ≡ tab (λ y. tab (λ x. cell y x) w) h
+    = rw (high, up, wide)
+    (tab-ext _ _ h (λ y l. tab-ext _ _ w (λ x k. ap index (cell-filled d w h plane stride inside long y x l k) ∙ sym (shown y x)))) in
+    rw kind (ap (streamed file t) found)
+    ∙ (λ z. shows (record { width = wide z; height = all z; palette = paletteOf file t; rows = rows z }))
+
+-- ---- the sources that are coded
+
+-- what the two sources that a stream codes have in common
+record Coded (f : BmpPixelFormat) : Type 0 where
+  deep : (bitsPerPixel f ≡ 4) ⊎ (bitsPerPixel f ≡ 8)
+  one : bytesPerPixel f ≡ 1
+  step : pixelBytes f ≡ 1
+  kind : (eqb (cond (eqb (bitsPerPixel f) 8) 1 2) 1 || eqb (cond (eqb (bitsPerPixel f) 8) 1 2) 2) ≡ true
+  shown : (byte : ℕ → ℕ) → plainlyShown f byte ≡ index (byte 0 % 2 ^ bitsPerPixel f)
+
+-- only Pal8 and Indexed4 are coded
+coded-source : (f : BmpPixelFormat) → coded f ≡ true → Coded f
+unfolding plainlyShown
+coded-source Rgba e = absurd (false≢true e)
+coded-source Rgb24 e = absurd (false≢true e)
+coded-source Bgra e = absurd (false≢true e)
+coded-source Bgr24 e = absurd (false≢true e)
+coded-source Rgb555 e = absurd (false≢true e)
+coded-source Rgb565 e = absurd (false≢true e)
+coded-source Pal8 e = record { deep = inr refl; one = refl; step = refl; kind = refl; shown = λ byte. refl }
+coded-source Indexed4 e = record { deep = inl refl; one = refl; step = refl; kind = refl; shown = λ byte. refl }
+coded-source Indexed2 e = absurd (false≢true e)
+coded-source Indexed1 e = absurd (false≢true e)
+
+-- ---- when a stream is used
+
+-- the tests that hold together where a stream is used
+planned-parts : (a b c d e : Bool) → ((a && b && c && not d) && e) ≡ true → (a ≡ true) × ((b ≡ true) × (d ≡ false))
+planned-parts true true true false e h = (refl, (refl, refl))
+planned-parts true true true true e h = absurd (false≢true h)
+planned-parts true true false d e h = absurd (false≢true h)
+planned-parts true false c d e h = absurd (false≢true h)
+planned-parts false b c d e h = absurd (false≢true h)
+
+plain-mode : (m : Mode) → isPlain m ≡ true → m ≡ plain
+plain-mode masked e = absurd (false≢true e)
+plain-mode calibrated e = absurd (false≢true e)
+plain-mode profiled e = absurd (false≢true e)
+plain-mode plain e = refl
+
+-- the plain mode has no masks
+flag-off : (a b c : Bool) → cond a masked (cond b calibrated (cond c profiled plain)) ≡ plain → a ≡ false
+flag-off true b c e = cc
+flag-off false b c e = refl
+
+no-masks : (i : Input) → modeOf i ≡ plain → i .options .«has_bitfields» ≡ false
+unfolding modeOf
+no-masks i e = flag-off (i .options .«has_bitfields») (i .options .«has_calibrated_rgb»)
+    (profileMode (i .source .«has_linked_icc») (i .source .«has_icc») (i .options .«embed_icc»)) e
+
+-- a stream is used in the plain mode only, of a coded source that is not top-down
+used-parts : (i : Input) → streamUsed maxFile i ≡ true → (isPlain (modeOf i) ≡ true) × ((coded (i .source .format) ≡ true) × (i .options .«top_down» ≡ false))
+unfolding streamUsed rlePlanned
+used-parts i e = planned-parts (isPlain (modeOf i)) (coded (i .source .format)) (i .options .rle) (i .options .«top_down») (ltb (length (streamOf i)) (budget maxFile i)) e
+
+-- the compression says that there is a stream
+kind-read : (i : Input) → streamUsed maxFile i ≡ true → compressionOf maxFile plain i ≡ cond (eqb (bitsPerPixel (i .source .format)) 8) 1 2
+unfolding compressionOf
+kind-read i used = rw used
+
+-- the stream stands at the offset
+stream-at : (i : Input) → streamUsed maxFile i ≡ true
+    → drop (headBytes i) (fileOf maxFile i)
+    ≡ stream (bitsPerPixel (i .source .format)) (i .source .width) (i .source .height) (i .plane) (i .source .stride) ++ tailOf (modeOf i) i
+unfolding pixels streamOf
+stream-at i used = pixels-at i ∙ rw used
+
+-- without masks an index is shown as it was handed in, cut to the depth
+index-shown : (i : Input) → i .options .«has_bitfields» ≡ false → Coded (i .source .format) → (y x : ℕ)
+    → cellShown i y x ≡ index (getD (i .plane) (y * i .source .stride + x * 1 + 0) 0 % 2 ^ bitsPerPixel (i .source .format))
+unfolding cellShown handed
+index-shown i off c y x = rw off (c .shown (handed i y x) ∙ rw (c .step))
+
+-- what the readers show of a stream is what must be shown
+pub stream-body : (i : Input) → Accepted i → streamUsed maxFile i ≡ true
+    → body (fileOf maxFile i) (fieldsOf (fileOf maxFile i)) ≡ shows (expected i)
+unfolding expected
+stream-body i a used =
+    let parts = used-parts i used in
+    let mode : modeOf i ≡ plain = plain-mode (modeOf i) (parts .0) in
+    let c : Coded (i .source .format) = coded-source (i .source .format) (parts .1 .0) in
+    let read = fields-read i a in
+    let offset : fieldsOf (fileOf maxFile i) .offset ≡ headBytes i = ap (λ (t : Fields). t .offset) read in
+    let wide : fieldsOf (fileOf maxFile i) .width ≡ i .source .width = ap (λ (t : Fields). t .width) read in
+    let high : fieldsOf (fileOf maxFile i) .height ≡ i .source .height = ap (λ (t : Fields). t .height) read ∙ rw (parts .1 .1) in
+    let bits : fieldsOf (fileOf maxFile i) .depth ≡ bitsPerPixel (i .source .format) = ap (λ (t : Fields). t .depth) read ∙ ap (λ (m : Mode). depthIn m i) mode in
+    let kind : fieldsOf (fileOf maxFile i) .compression ≡ cond (eqb (bitsPerPixel (i .source .format)) 8) 1 2
+    = ap (λ (t : Fields). t .compression) read ∙ ap (λ (m : Mode). compressionOf maxFile m i) mode ∙ kind-read i used in
+    let at : drop (fieldsOf (fileOf maxFile i) .offset) (fileOf maxFile i) ≡ _ = ap (λ (n : ℕ). drop n (fileOf maxFile i)) offset ∙ stream-at i used in
+    body-read (fileOf maxFile i) (fieldsOf (fileOf maxFile i)) (bitsPerPixel (i .source .format)) (i .source .width) (i .source .height) (i .plane) (i .source .stride)
+    (tailOf (modeOf i) i) (cellShown i) (c .deep) (a .some-height) (a .tall) (rw (← c .one) (a .rows-inside)) (a .plane-long) wide high bits (rw kind (c .kind)) at
+    (index-shown i (no-masks i mode) c)
+    ∙ rw (palette-read i a (a .nine-endpoints) (a .three-gammas))
