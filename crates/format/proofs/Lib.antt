@@ -1,6 +1,7 @@
 pub mod Acceptance
 pub mod Channels
 pub mod Examples
+pub mod FileLaws
 pub mod FileSizes
 pub mod HeadFields
 pub mod HeadMasks
