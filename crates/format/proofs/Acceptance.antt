@@ -1,7 +1,7 @@
 -- From "no row of the table applies" to what is known of an accepted call.
 use mathlib.Core.Path.{_≡_, refl, sym, ap, _∙_}
 use mathlib.Core.Logic.{_⊎_, inl, inr}
-use mathlib.Core.Bool.{Bool, true, false, false≢true, not, cond, _&&_, _||_}
+use mathlib.Core.Bool.{Bool, true, false, false≢true, not, _&&_, _||_}
 use mathlib.Core.List.{List, [], _∷_, _++_}
 use Prim.Native.Nat.{ℕ, zero, suc, _+_, _-_, _*_, _^_, _≤_, _<_}
 use native.Mathlib.Omega.{arith}
@@ -19,11 +19,12 @@ use Rattle.leaves.specs.Masks.{count, isOneRun, sharesBit, maskDepth, maskRows,
 use Rattle.leaves.specs.Refusals.{firstOf, profileMode, dimensionRows, paletteRows, modeRows, planeRows}
 use Rattle.leaves.specs.Formats.{bytesPerPixel, isIndexed}
 use Rattle.format.specs.Accepted.{MasksAccepted, Accepted}
-use Rattle.format.specs.File.{masked, calibrated, profiled, plain, modeOf, rlePlanned, streamOf, maxFile, budget, streamUsed, plainSize}
+use Rattle.format.specs.File.{rlePlanned, streamOf, maxFile, budget, streamUsed, plainSize}
 use Rattle.format.specs.Input.{Input}
 use Rattle.format.specs.Refusals.{maskSource, fileTooLarge, bufferTooShort, streamOverBudget, givenMasksRows, planRows, writeRows}
 use Rattle.leaves.proofs.Runs.{is-one-run}
 use Rattle.format.proofs.FileSizes.{length-rows, file-fits}
+use Rattle.format.proofs.Modes.{masks-given}
 use Rattle.format.proofs.Passing.{first-parts, row-parts, cat-parts, or-false, and-false}
 
 -- ---- masks
@@ -101,17 +102,6 @@ masks-accepted d masks e =
     }
 
 -- ---- the call
-
--- the masks of mask mode
-mask-mode : (i : Input) → modeOf i ≡ masked → i .options .«has_bitfields» ≡ true
-unfolding modeOf
-mask-mode i e = go (i .options .«has_bitfields») (i .options .«has_calibrated_rgb») (profileMode (i .source .«has_linked_icc») (i .source .«has_icc») (i .options .«embed_icc»)) refl e
-  where
-    go : (a b c : Bool) → i .options .«has_bitfields» ≡ a → cond a masked (cond b calibrated (cond c profiled plain)) ≡ masked → i .options .«has_bitfields» ≡ true
-    go true b c q e = q
-    go false true c q e = let z : calibrated ≡ masked = e in cc
-    go false false true q e = let z : profiled ≡ masked = e in cc
-    go false false false q e = let z : plain ≡ masked = e in cc
 
 -- 1 and 2 passed
 dimensions : (w h : ℕ) → firstOf (dimensionRows w h) ≡ Passed → ((0 < w) × (w < 2147483648)) × ((0 < h) × (h < 2147483648))
@@ -191,5 +181,5 @@ accepted i room offset plane-bytes palette-bytes nine three e =
       plane-long = long .0;
       masks = λ q. mask q .0;
       samples = λ q. mask q .1;
-      fits = file-fits maxFile i (length-rows i (λ q. mask (mask-mode i q) .0) (λ q. mask (mask-mode i q) .1)) (size-fits i large over);
+      fits = file-fits maxFile i (length-rows i (λ q. mask (masks-given i q) .0) (λ q. mask (masks-given i q) .1)) (size-fits i large over);
     }

@@ -6,7 +6,7 @@ use Prim.Native.Nat.{ℕ}
 use lib.ListN.{length, replicate}
 use Rattle.leaves.specs.declared.image.BmpPixelFormat.the-variants.{Pal8}
 use Rattle.leaves.specs.declared.encoder.EncodedBmpFormat.the-variants.{Rle8, Indexed8}
-use Rattle.leaves.specs.declared.error.Check.the-variants.{Passed, Refused}
+use Rattle.leaves.specs.declared.error.Check.the-variants.{Refused}
 use Rattle.leaves.specs.declared.error.Refusal.the-variants.{PlaneTooShort}
 use Rattle.leaves.specs.Bytes.{le16, le32}
 use Rattle.leaves.specs.Lists.{tab, cat}
@@ -15,12 +15,11 @@ use Rattle.leaves.specs.Refusals.{firstOf, dimensionRows, paletteRows, modeRows
 use Rattle.leaves.specs.Sizes.{rowStride, paletteEntryCount, writtenPaletteEntries, clrUsed}
 use Rattle.rows.specs.Packing.{digits, packedByte, packed}
 use Rattle.rows.specs.RleCodes.{cells, scan, bytes, codes, rowCodes}
-use Rattle.rows.specs.StoredRows.{storedRow, storedRows}
 use Rattle.rows.specs.Stream.{streamRow, stream}
-use Rattle.format.specs.Headers.{dwords, fileHeader, infoHeader}
+use Rattle.format.specs.Headers.{fileHeader, infoHeader}
 use Rattle.format.specs.Input.{Input}
-use Rattle.format.specs.File.{modeOf, tailOf, entriesOf, tableEntry, colourTable, headRest, headBytes, rawBytes, rlePlanned, streamOf, maxFile, budget, streamUsed, packIn, storedRowsOf, pixels, compressionOf, imageSize, headOf, fileSize, fileOf, plainSize, boundOf, formatOf}
-use Rattle.format.specs.Refusals.{fileTooLarge, bufferTooShort, streamOverBudget, givenMasksRows, planRows, writeRows}
+use Rattle.format.specs.File.{modeOf, tailOf, entriesOf, tableEntry, colourTable, headRest, headBytes, rawBytes, rlePlanned, streamOf, maxFile, budget, streamUsed, pixels, compressionOf, imageSize, headOf, fileSize, fileOf, plainSize, boundOf, formatOf}
+use Rattle.format.specs.Refusals.{fileTooLarge, givenMasksRows, planRows}
 
 -- Pal8 of one row, all 7, with an empty minimal palette
 unfoldable pub sevens : ℕ → ℕ → Input

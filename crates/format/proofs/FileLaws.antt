@@ -30,7 +30,8 @@ use Rattle.format.specs.Readers.{wordAt, dwordAt}
 use Rattle.rows.proofs.PackLaws.{Depth, depth, digits-byte}
 use Rattle.rows.proofs.RleBlocks.{block-sound}
 use Rattle.format.proofs.FileSizes.{length-rows, pack-ok}
-use Rattle.format.proofs.HeadFields.{dword-bytes, masks-given, firstPart, restPart, file-parts, length-file}
+use Rattle.format.proofs.HeadFields.{dword-bytes, firstPart, restPart, file-parts, length-file}
+use Rattle.format.proofs.Modes.{masks-given}
 use Rattle.format.proofs.SourceRows.{source-small}
 
 -- ---- the size

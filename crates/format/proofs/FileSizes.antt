@@ -1,14 +1,14 @@
 -- The length of the stored rows, and the size of an accepted file.
 use mathlib.Core.Path.{_≡_, refl, sym, ap, _∙_}
 use mathlib.Core.Logic.{_⊎_, inl, inr}
-use mathlib.Core.Bool.{Bool, true, false, false≢true, cond, _&&_}
+use mathlib.Core.Bool.{Bool, true, false, false≢true, cond}
 use mathlib.Core.List.{List, []}
 use Prim.Native.Nat.{ℕ, _+_, _-_, _*_, _^_, _≤_, _<_, min}
 use native.Mathlib.Nat.{lt-of-lt-of-le, mul-comm}
 use native.Mathlib.Omega.{arith}
-use borrow.Author.Tests.{eqb-true, eqb-false, ltb-true}
+use borrow.Author.Tests.{eqb-true, eqb-false}
 use lib.Count.{trailingZeros}
-use lib.Dec.{eqb, ltb}
+use lib.Dec.{eqb}
 use lib.ListN.{length, getD}
 use lib.Pow.{pow-mono}
 use Rattle.leaves.specs.declared.image.BmpPixelFormat.{BmpPixelFormat}
@@ -18,11 +18,21 @@ use Rattle.leaves.specs.Masks.{count, lowest, isOneRun}
 use Rattle.leaves.specs.Sizes.{rowStride}
 use Rattle.rows.specs.StoredRows.{packBits, LayoutOk, PackOk}
 use Rattle.format.specs.Accepted.{MasksAccepted}
-use Rattle.format.specs.File.{Mode, masked, calibrated, profiled, plain, modeOf, depthIn, channelOf, layoutOf, plainPack, packIn, tailOf, rawBytes, headBytes, isPlain, rlePlanned, streamOf, budget, streamUsed, storedRowsOf, pixels, fileSize, plainSize}
+use Rattle.format.specs.File.{Mode, masked, calibrated, profiled, plain, modeOf, depthIn, channelOf, layoutOf, plainPack, packIn, tailOf, rawBytes, headBytes, streamOf, budget, streamUsed, storedRowsOf, pixels, fileSize, plainSize}
 use Rattle.format.specs.Input.{Input}
 use Rattle.format.specs.Refusals.{maskSource}
 use Rattle.leaves.proofs.Runs.{ends-within, len-run, count-zero}
 use Rattle.rows.proofs.AllRows.{length-storedRows}
+use Rattle.format.proofs.Modes.{used-in}
+
+-- masks have cells of at most 32 bits
+pub masked-depth : (d : ℕ) → (d ≡ 16) ⊎ (d ≡ 32) → d ≤ 32
+masked-depth d (inl e) = omega arith
+masked-depth d (inr e) = omega arith
+
+-- so an accepted mask has 32 bits
+pub mask-lt : (d : ℕ) (masks : List ℕ) → MasksAccepted d masks → (k : ℕ) → k < 4 → getD masks k 0 < 2 ^ 32
+mask-lt d masks a k h = lt-of-lt-of-le (a .inside k h) (pow-mono {j = 32} (masked-depth d (a .depths)))
 
 -- a channel of a mask that is one run stays in the word
 channel-within : (m : ℕ) → m < 2 ^ 32 → isOneRun m ≡ true → channelOf m .shift + channelOf m .len ≤ 32
@@ -46,12 +56,8 @@ layout-ok d masks a =
       alpha = within 3 (omega arith);
     }
   where
-    deep : (d ≡ 16) ⊎ (d ≡ 32) → d ≤ 32
-    deep (inl e) = omega arith
-    deep (inr e) = omega arith
-
     within : (k : ℕ) → k < 4 → channelOf (getD masks k 0) .shift + channelOf (getD masks k 0) .len ≤ 32
-    within k h = channel-within (getD masks k 0) (lt-of-lt-of-le (a .inside k h) (pow-mono {j = 32} (deep (a .depths)))) (a .runs k h)
+    within k h = channel-within (getD masks k 0) (mask-lt d masks a k h) (a .runs k h)
 
 -- pixels of the four sources that mask mode takes
 sample-bytes : (f : BmpPixelFormat) → maskSource f ≡ false → (bytesPerPixel f ≡ 3) ⊎ (bytesPerPixel f ≡ 4)
@@ -97,30 +103,13 @@ length-rows i a s =
     ∙ ap (λ (d : ℕ). i .source .height * rowStride (i .source .width) d) (k .1)
     ∙ mul-comm (i .source .height) (rowStride (i .source .width) (depthIn (modeOf i) i))
 
-and-true : (a b : Bool) → (a && b) ≡ true → (a ≡ true) × (b ≡ true)
-and-true true b e = (refl, e)
-and-true false b e = absurd (false≢true e)
-
--- the first of four tests that hold together
-and-true3 : (a b c d : Bool) → (a && b && c && d) ≡ true → (a && true) ≡ true
-and-true3 true b c d e = refl
-and-true3 false b c d e = absurd (false≢true e)
-
--- a stream has no profile behind it
-stream-alone : (mode : Mode) (i : Input) → (isPlain mode && true) ≡ true → tailOf mode i ≡ []
-unfolding tailOf
-stream-alone masked i e = absurd (false≢true e)
-stream-alone calibrated i e = absurd (false≢true e)
-stream-alone profiled i e = absurd (false≢true e)
-stream-alone plain i e = refl
-
 -- a stream under the budget keeps the file in the limit
 coded-fits : (limit : ℕ) (i : Input) → streamUsed limit i ≡ true → headBytes i + length (streamOf i) + length (tailOf (modeOf i) i) ≤ limit
-unfolding streamUsed rlePlanned budget
+unfolding budget tailOf
 coded-fits limit i e =
-    let both = and-true (rlePlanned i) (ltb (length (streamOf i)) (budget limit i)) e in
-    let under : length (streamOf i) < min (rawBytes i) (limit + 1 - headBytes i) = ltb-true (length (streamOf i)) (budget limit i) (both .1) in
-    let alone : tailOf (modeOf i) i ≡ [] = stream-alone (modeOf i) i (and-true3 (isPlain (modeOf i)) _ _ _ (both .0)) in
+    let used = used-in limit i e in
+    let under : length (streamOf i) < min (rawBytes i) (limit + 1 - headBytes i) = used .under in
+    let alone : tailOf (modeOf i) i ≡ [] = ap (λ (m : Mode). tailOf m i) (used .mode) in
     omega (arith, ap length alone)
 
 -- a file whose plain form fits, or whose stream is under the budget, fits

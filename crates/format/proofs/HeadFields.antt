@@ -1,6 +1,6 @@
 -- What the readers take from the first 54 bytes of a file, and where its pixels begin.
 use mathlib.Core.Path.{_≡_, refl, _∙_}
-use mathlib.Core.Logic.{_⊎_, inl, inr}
+use mathlib.Core.Logic.{_⊎_}
 use mathlib.Core.Bool.{Bool, true, false, cond}
 use mathlib.Core.List.{List, _++_, append-assoc}
 use Prim.Native.Nat.{ℕ, _+_, _-_, _*_, _/_, _%_, _≤_, _<_}
@@ -14,15 +14,16 @@ use Rattle.leaves.specs.declared.image.BmpPixelFormat.the-variants.{Rgba, Rgb24
 use Rattle.leaves.specs.Bytes.{le16, le32}
 use Rattle.leaves.specs.Formats.{bitsPerPixel}
 use Rattle.leaves.specs.Masks.{hasAlphaMask}
-use Rattle.leaves.specs.Refusals.{profileMode}
 use Rattle.leaves.specs.Sizes.{paletteEntryCount, clrUsed}
 use Rattle.format.specs.Headers.{fileHeader, infoHeader, v5Fields}
 use Rattle.format.specs.Input.{Input}
 use Rattle.format.specs.File.{Mode, masked, calibrated, profiled, plain, modeOf, tailOf, depthIn, entriesOf, tableEntry, colourTable, isRgb565, headerSize, headRest, headBytes, rawBytes, streamUsed, maxFile, pixels, storedHeight, compressionOf, imageSize, pelsPerMeter, headOf, fileSize, fileOf}
 use Rattle.format.specs.Accepted.{Accepted}
-use Rattle.format.specs.Readers.{wordAt, dwordAt, fieldsOf}
+use Rattle.format.specs.Readers.{wordAt, dwordAt, Fields, fieldsOf}
 use Rattle.leaves.proofs.ListLaws.{length-cat}
 use Rattle.leaves.proofs.TableCounts.{entries-le}
+use Rattle.format.proofs.FileSizes.{masked-depth}
+use Rattle.format.proofs.Modes.{masks-given}
 
 -- ---- numbers
 
@@ -54,18 +55,6 @@ first-fields size off hs w h d c im x y n rest a b e g i j k = λ z. record {
 }
 
 -- ---- the numbers are small
-
--- the masks' flag is the mode's
-flag-of : (a b c : Bool) → cond a masked (cond b calibrated (cond c profiled plain)) ≡ masked → a ≡ true
-flag-of true b c e = refl
-flag-of false true c e = cc
-flag-of false false true e = cc
-flag-of false false false e = cc
-
-pub masks-given : (i : Input) → modeOf i ≡ masked → i .options .«has_bitfields» ≡ true
-unfolding modeOf
-masks-given i e = flag-of (i .options .«has_bitfields») (i .options .«has_calibrated_rgb»)
-    (profileMode (i .source .«has_linked_icc») (i .source .«has_icc») (i .options .«embed_icc»)) e
 
 -- a choice of two small numbers is small
 choice-le : (b : Bool) (x y n : ℕ) → x ≤ n → y ≤ n → cond b x y ≤ n
@@ -109,11 +98,7 @@ bits-le Indexed1 = omega arith
 
 -- an accepted depth is at most 32
 depth-le : (m : Mode) (i : Input) → (m ≡ masked → (i .options .bitfields .bpp ≡ 16) ⊎ (i .options .bitfields .bpp ≡ 32)) → depthIn m i ≤ 32
-depth-le masked i d = go (d refl)
-  where
-    go : (i .options .bitfields .bpp ≡ 16) ⊎ (i .options .bitfields .bpp ≡ 32) → i .options .bitfields .bpp ≤ 32
-    go (inl e) = omega arith
-    go (inr e) = omega arith
+depth-le masked i d = masked-depth (i .options .bitfields .bpp) (d refl)
 depth-le calibrated i d = bits-le (i .source .format)
 depth-le profiled i d = bits-le (i .source .format)
 depth-le plain i d = bits-le (i .source .format)
@@ -193,9 +178,10 @@ length-file i = simp (length-append, length-head i (fileSize maxFile i)) (omega 
 
 -- ---- the file's fields
 
-pub fields-read : (i : Input) → Accepted i
-    → fieldsOf (fileOf maxFile i)
-    ≡ record {
+-- the fields as they are written
+abbrev pub fieldsIn : Input → Fields
+fieldsIn i =
+    record {
       offset = headBytes i;
       headerSize = headerSize (modeOf i) (i .source .format);
       width = i .source .width;
@@ -204,6 +190,9 @@ pub fields-read : (i : Input) → Accepted i
       compression = compressionOf maxFile (modeOf i) i;
       colours = clrUsed (depthIn (modeOf i) i) (entriesOf i);
     }
+
+-- are the ones that the readers take
+pub fields-read : (i : Input) → Accepted i → fieldsOf (fileOf maxFile i) ≡ fieldsIn i
 fields-read i a =
     rw (file-parts i)
     (first-fields (fileSize maxFile i) (headBytes i) (headerSize (modeOf i) (i .source .format)) (i .source .width) (storedHeight i) (depthIn (modeOf i) i)

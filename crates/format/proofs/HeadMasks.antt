@@ -1,9 +1,8 @@
 -- The masks that the readers take from a head.
 use mathlib.Core.Path.{_≡_, refl, sym, ap, _∙_}
-use mathlib.Core.Logic.{_⊎_, inl, inr}
 use mathlib.Core.Bool.{Bool, true, false, cond, false≢true}
 use mathlib.Core.List.{List, [], _∷_, _++_, append-assoc}
-use Prim.Native.Nat.{ℕ, _+_, _-_, _^_, _<_}
+use Prim.Native.Nat.{ℕ, _+_, _-_, _<_}
 use native.Mathlib.Omega.{arith}
 use lib.ListN.{length, getD, replicate}
 use Rattle.leaves.specs.declared.image.BmpPixelFormat.the-variants.{Rgb565}
@@ -15,7 +14,9 @@ use Rattle.format.specs.File.{Mode, masked, calibrated, profiled, plain,
 use Rattle.format.specs.Accepted.{Accepted}
 use Rattle.format.specs.Refusals.{maskSource}
 use Rattle.format.specs.Readers.{wordAt, dwordAt}
-use Rattle.format.proofs.HeadFields.{dword-bytes, masks-given, firstPart, file-parts}
+use Rattle.format.proofs.FileSizes.{mask-lt}
+use Rattle.format.proofs.HeadFields.{dword-bytes, firstPart, file-parts}
+use Rattle.format.proofs.Modes.{masks-given}
 
 -- the colour masks that a reader finds
 pub record ColourMasks (file : List ℕ) (red green blue : ℕ) : Type 0 where
@@ -38,11 +39,6 @@ unfolding fileHeader infoHeader le32 le16 dwordAt wordAt
 fourth i n a b c d more p = dword-bytes d p
 
 -- ---- in mask mode
-
--- an accepted mask has 32 bits
-mask-lt : (depth mask : ℕ) → (depth ≡ 16) ⊎ (depth ≡ 32) → mask < 2 ^ depth → mask < 4294967296
-mask-lt depth mask (inl e) h = let k : mask < 2 ^ 16 = rw e at h in omega arith
-mask-lt depth mask (inr e) h = rw e at h
 
 -- the masks written begin with the three colours
 mask-bytes : (masks more : List ℕ)
@@ -69,8 +65,7 @@ module _ (i : Input) where
   module _ (a : Accepted i) where
     -- every mask has 32 bits
     small : modeOf i ≡ masked → (k : ℕ) → k < 4 → getD (i .options .bitfields .masks) k 0 < 4294967296
-    small e k h =
-        mask-lt (i .options .bitfields .bpp) (getD (i .options .bitfields .masks) k 0) (a .masks (masks-given i e) .depths) (a .masks (masks-given i e) .inside k h)
+    small e = mask-lt (i .options .bitfields .bpp) (i .options .bitfields .masks) (a .masks (masks-given i e))
 
     -- the colour masks are the ones handed in
     pub masks-read : modeOf i ≡ masked

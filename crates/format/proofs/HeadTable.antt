@@ -26,7 +26,8 @@ use Rattle.format.specs.Shown.{rgb}
 use Rattle.format.specs.Readers.{Fields, fieldsOf, tableCount, paletteOf}
 use Rattle.leaves.proofs.ListLaws.{tab-ext, getD-cat}
 use Rattle.leaves.proofs.TableCounts.{written-le, written-some}
-use Rattle.format.proofs.HeadFields.{masks-given, firstPart, restPart, file-parts, first-length, rest-length, table-length, fields-read}
+use Rattle.format.proofs.HeadFields.{firstPart, restPart, file-parts, first-length, rest-length, table-length, fields-read}
+use Rattle.format.proofs.Modes.{masks-given}
 
 -- ---- lengths of the longer headers
 
@@ -59,14 +60,14 @@ longs-length : (i : Input) → length (longs (i .options .«calibrated_rgb» .en
 unfolding longs
 longs-length i = length-map (i .options .«calibrated_rgb» .endpoints) (ofZ w32)
 
-module _ (i : Input) (nine : length (i .options .«calibrated_rgb» .endpoints) ≡ 9) (three : length (i .options .«calibrated_rgb» .gamma) ≡ 3) where
+module _ (i : Input) (a : Accepted i) where
   -- without masks, the header ends where the table begins
   pub header-fills : (m : Mode) → (m ≡ masked → ⊥) → 54 + length (headRest m i 0) ≡ 14 + headerSize m (i .source .format)
   unfolding headRest v5Fields le32
   header-fills masked never = absurd (never refl)
   header-fills calibrated never =
       rw (v4-length (longMasks (i .source .format)) 0 (longs (i .options .«calibrated_rgb» .endpoints)) (i .options .«calibrated_rgb» .gamma)
-      (four-masks (i .source .format)) (longs-length i ∙ nine) three)
+      (four-masks (i .source .format)) (longs-length i ∙ a .nine-endpoints) (a .three-gammas))
   header-fills profiled never =
       simp (
         length-append,
@@ -191,7 +192,7 @@ passed : (b : Bool) (n k : ℕ) → k < cond b n 0 → b ≡ true
 passed true n k h = refl
 passed false n k h = absurd (omega arith)
 
-module _ (i : Input) (a : Accepted i) (nine : length (i .options .«calibrated_rgb» .endpoints) ≡ 9) (three : length (i .options .«calibrated_rgb» .gamma) ≡ 3) where
+module _ (i : Input) (a : Accepted i) where
   -- where there is an entry, there are no masks
   entry-plain : (k : ℕ) → k < entriesOf i → modeOf i ≡ masked → ⊥
   unfolding entriesOf
@@ -204,7 +205,7 @@ module _ (i : Input) (a : Accepted i) (nine : length (i .options .«calibrated_r
       → getD (fileOf maxFile i) q 0 ≡ getD (tableEntry (i .palette) k) j 0
   unfolding colourTable tableEntry
   table-byte k j q h l e =
-      let place : q ≡ 54 + (length (headRest (modeOf i) i 0) + (k * 4 + j)) = omega (arith, header-fills i nine three (modeOf i) (entry-plain k h)) in
+      let place : q ≡ 54 + (length (headRest (modeOf i) i 0) + (k * 4 + j)) = omega (arith, header-fills i a (modeOf i) (entry-plain k h)) in
       rw (file-parts i, place)
       (past (firstPart i (fileSize maxFile i)) (restPart i ++ (colourTable i ++ (pixels maxFile i ++ tailOf (modeOf i) i))) 54
       (length (headRest (modeOf i) i 0) + (k * 4 + j)) (first-length i (fileSize maxFile i))

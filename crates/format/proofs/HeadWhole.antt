@@ -1,5 +1,5 @@
 -- The readers find the whole head in the file.
-use mathlib.Core.Path.{_≡_, ap}
+use mathlib.Core.Path.{_≡_, refl, ap}
 use mathlib.Core.Bool.{Bool, true, false, cond}
 use mathlib.Core.List.{[], _∷_}
 use Prim.Native.Nat.{ℕ, _+_, _*_, _≤_}
@@ -16,6 +16,7 @@ use Rattle.format.specs.Accepted.{Accepted}
 use Rattle.format.specs.Readers.{Fields, fieldsOf, tableCount, headNeeds}
 use Rattle.format.proofs.HeadFields.{length-file, fields-read}
 use Rattle.format.proofs.HeadTable.{header-fills, count-read}
+use Rattle.format.proofs.Modes.{not-masked}
 
 -- the bytes up to the last mask that a compression needs
 abbrev masksEnd : ℕ → ℕ
@@ -33,17 +34,7 @@ unfolding dwords le32
 masked-end true p q r s = omega arith
 masked-end false p q r s = omega arith
 
--- the other modes are not mask mode
-pub calibrated-other : calibrated ≡ masked → ⊥
-calibrated-other e = let z : _≡_ {A = ℕ} 0 1 = cc in omega arith
-
-pub profiled-other : profiled ≡ masked → ⊥
-profiled-other e = let z : _≡_ {A = ℕ} 0 1 = cc in omega arith
-
-pub plain-other : plain ≡ masked → ⊥
-plain-other e = let z : _≡_ {A = ℕ} 0 1 = cc in omega arith
-
-module _ (i : Input) (nine : length (i .options .«calibrated_rgb» .endpoints) ≡ 9) (three : length (i .options .«calibrated_rgb» .gamma) ≡ 3) where
+module _ (i : Input) (a : Accepted i) where
   -- in a plain file, the masks of Rgb565 or none
   plain-end : (used eight sixes : Bool) → masksEnd (cond used (cond eight 1 2) (cond sixes 3 0)) ≤ 14 + cond sixes 108 40
   plain-end true true true = omega arith
@@ -60,19 +51,19 @@ module _ (i : Input) (nine : length (i .options .«calibrated_rgb» .endpoints) 
       masked-end (hasAlphaMask (i .options .bitfields .masks)) (getD (i .options .bitfields .masks) 0 0) (getD (i .options .bitfields .masks) 1 0)
       (getD (i .options .bitfields .masks) 2 0) (getD (i .options .bitfields .masks) 3 0)
   masks-inside calibrated =
-      omega (arith, header-fills i nine three calibrated calibrated-other, end-le (eqb (cond (isRgb565 (i .source .format)) 3 0) 6) (eqb (cond (isRgb565 (i .source .format)) 3 0) 3))
+      omega (arith, header-fills i a calibrated (not-masked calibrated refl), end-le (eqb (cond (isRgb565 (i .source .format)) 3 0) 6) (eqb (cond (isRgb565 (i .source .format)) 3 0) 3))
   masks-inside profiled =
-      omega (arith, header-fills i nine three profiled profiled-other, end-le (eqb (cond (isRgb565 (i .source .format)) 3 0) 6) (eqb (cond (isRgb565 (i .source .format)) 3 0) 3))
+      omega (arith, header-fills i a profiled (not-masked profiled refl), end-le (eqb (cond (isRgb565 (i .source .format)) 3 0) 6) (eqb (cond (isRgb565 (i .source .format)) 3 0) 3))
   masks-inside plain =
-      rw (header-fills i nine three plain plain-other)
+      rw (header-fills i a plain (not-masked plain refl))
       (plain-end (streamUsed maxFile i) (eqb (bitsPerPixel (i .source .format)) 8) (isRgb565 (i .source .format)))
 
   -- the header stands in the head
   header-inside : (m : Mode) → 14 + headerSize m (i .source .format) ≤ 54 + length (headRest m i 0)
   header-inside masked = omega arith
-  header-inside calibrated = omega (arith, header-fills i nine three calibrated calibrated-other)
-  header-inside profiled = omega (arith, header-fills i nine three profiled profiled-other)
-  header-inside plain = omega (arith, header-fills i nine three plain plain-other)
+  header-inside calibrated = omega (arith, header-fills i a calibrated (not-masked calibrated refl))
+  header-inside profiled = omega (arith, header-fills i a profiled (not-masked profiled refl))
+  header-inside plain = omega (arith, header-fills i a plain (not-masked plain refl))
 
   -- the head is in the file
   head-inside : 54 + length (headRest (modeOf i) i 0) + 4 * entriesOf i ≤ length (fileOf maxFile i)
@@ -80,9 +71,9 @@ module _ (i : Input) (nine : length (i .options .«calibrated_rgb» .endpoints) 
   head-inside = rw (length-file i) (omega arith)
 
   -- the fields, masks and table that the readers need are in the file
-  pub head-long : Accepted i → headNeeds (fieldsOf (fileOf maxFile i)) ≤ length (fileOf maxFile i)
+  pub head-long : headNeeds (fieldsOf (fileOf maxFile i)) ≤ length (fileOf maxFile i)
   unfolding headNeeds
-  head-long a =
+  head-long =
       let count : tableCount (fieldsOf (fileOf maxFile i)) ≡ entriesOf i = count-read i a in
       let size : fieldsOf (fileOf maxFile i) .headerSize ≡ headerSize (modeOf i) (i .source .format) = ap (λ (t : Fields). t .headerSize) (fields-read i a) in
       let code : fieldsOf (fileOf maxFile i) .compression ≡ compressionOf maxFile (modeOf i) i = ap (λ (t : Fields). t .compression) (fields-read i a) in

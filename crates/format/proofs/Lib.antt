@@ -8,8 +8,10 @@ pub mod HeadMasks
 pub mod HeadTable
 pub mod HeadWhole
 pub mod MaskedCells
+pub mod Modes
 pub mod Opening
 pub mod Passing
+pub mod Pictures
 pub mod PlainBody
 pub mod PlainCells
 pub mod Readings

@@ -4,12 +4,11 @@ use mathlib.Core.Bool.{Bool, true, false, true≢false, not, cond}
 use mathlib.Core.Logic.{_⊎_, inl, inr}
 use mathlib.Core.List.{List, [], _∷_, _++_}
 use Prim.Native.Nat.{ℕ, zero, suc, _+_, _-_, _*_, _/_, _^_, _<_}
-use native.Mathlib.Nat.{suc-mul, mul-le-mul-right}
 use native.Mathlib.Omega.{arith}
 use borrow.Author.Tests.{eq-eqb}
 use lib.Count.{onesIn}
 use lib.Dec.{eqb}
-use lib.ListN.{length, getD, replicate, length-append, List·getD-append}
+use lib.ListN.{length, getD}
 use Rattle.leaves.specs.declared.image.BmpPixelFormat.{BmpPixelFormat}
 use Rattle.leaves.specs.declared.image.BmpPixelFormat.the-variants.{Rgba, Rgb24, Bgra, Bgr24, Rgb555, Rgb565, Pal8, Indexed4, Indexed2, Indexed1}
 use Rattle.rows.specs.declared.pack.MaskLayout.{MaskLayout}
@@ -26,24 +25,17 @@ use Rattle.format.specs.Expectation.{pixelBytes, fitted, fittedShown}
 use Rattle.format.specs.File.{blueFirst, layoutOf}
 use Rattle.format.specs.Readers.{wordAt, dwordAt, cellWord, channel, maskCell}
 use Rattle.format.specs.Refusals.{maskSource}
-use Rattle.leaves.proofs.ListLaws.{length-cat, getD-cat, from-le16, from-le32}
+use Rattle.leaves.proofs.ListLaws.{from-le16, from-le32}
 use Rattle.rows.proofs.MaskCells.{length-maskCell, cell32}
 use Rattle.format.proofs.Channels.{joined, fieldAt, channel-shown, word-lt}
+use Rattle.format.proofs.SourceRows.{cells-at}
 
 -- ---- a cell's bytes in a stored row
 
 -- byte k of cell x, of cells of s bytes each, whatever follows the cells
 byte-at : (f : ℕ → List ℕ) (rest : List ℕ) (s w n x k q : ℕ) → ((i : ℕ) → length (f i) ≡ s) → x < w → k < s → q ≡ x * s + k
     → getD (padded n (cat f w) ++ rest) q 0 ≡ getD (f x) k 0
-unfolding padded
-byte-at f rest s w n x k q all l h e =
-    let cells : length (cat f w) ≡ w * s = length-cat f s w (λ i _. all i) in
-    let inside : q < length (cat f w) = omega (arith, suc-mul x s, mul-le-mul-right s l) in
-    let pad : List ℕ = replicate (n - length (cat f w)) 0 in
-    List·getD-append (cat f w ++ pad) rest 0 q (omega (arith, length-append (cat f w) pad))
-    ∙ List·getD-append (cat f w) pad 0 q inside
-    ∙ ap (λ (z : ℕ). getD (cat f w) z 0) e
-    ∙ getD-cat f s w x k 0 (λ i _. all i) h l
+byte-at f rest s w n x k q all l h e = ap (λ (z : ℕ). getD (padded n (cat f w) ++ rest) z 0) e ∙ cells-at f s n w rest x k all l h
 
 -- the word of a cell is read as it was written: of 16 bits
 word16 : (f : ℕ → List ℕ) (rest : List ℕ) (w n x v : ℕ) → ((i : ℕ) → length (f i) ≡ 2) → f x ≡ le16 v → v < 65536 → x < w
@@ -150,17 +142,17 @@ cell-shown d n bgr masks file row rest w x ok r g b a bytes l =
 -- a masked cell shows the samples handed in, each fitted to its mask
 pub masked-cell : (f : BmpPixelFormat) (d : ℕ) (masks file row rest : List ℕ) (w x : ℕ) → maskSource f ≡ false → MasksAccepted d masks
     → dwordAt file 54 ≡ getD masks 0 0 → dwordAt file 58 ≡ getD masks 1 0 → dwordAt file 62 ≡ getD masks 2 0
-    → (hasAlphaMask masks ≡ true → dwordAt file 66 ≡ getD masks 3 0) → ((k : ℕ) → getD row k 0 < 256) → length row ≡ w * bytesPerPixel f → x < w
+    → (hasAlphaMask masks ≡ true → dwordAt file 66 ≡ getD masks 3 0) → ((k : ℕ) → getD row k 0 < 256) → x < w
     → maskCell file (maskCompression masks) (cellWord d (storedRow (Masks (bytesPerPixel f) (blueFirst f) (layoutOf d masks)) w row ++ rest) x)
     ≡ fittedShown f masks (λ k. getD row (x * pixelBytes f + k) 0)
 unfolding fittedShown
-masked-cell Rgba d masks file row rest w x _ ok r g b a bytes _ l = cell-shown d 4 false masks file row rest w x ok r g b a bytes l
-masked-cell Rgb24 d masks file row rest w x _ ok r g b a bytes _ l = cell-shown d 3 false masks file row rest w x ok r g b a bytes l
-masked-cell Bgra d masks file row rest w x _ ok r g b a bytes _ l = cell-shown d 4 true masks file row rest w x ok r g b a bytes l
-masked-cell Bgr24 d masks file row rest w x _ ok r g b a bytes _ l = cell-shown d 3 true masks file row rest w x ok r g b a bytes l
-masked-cell Rgb555 d masks file row rest w x e _ _ _ _ _ _ _ _ = absurd (true≢false e)
-masked-cell Rgb565 d masks file row rest w x e _ _ _ _ _ _ _ _ = absurd (true≢false e)
-masked-cell Pal8 d masks file row rest w x e _ _ _ _ _ _ _ _ = absurd (true≢false e)
-masked-cell Indexed4 d masks file row rest w x e _ _ _ _ _ _ _ _ = absurd (true≢false e)
-masked-cell Indexed2 d masks file row rest w x e _ _ _ _ _ _ _ _ = absurd (true≢false e)
-masked-cell Indexed1 d masks file row rest w x e _ _ _ _ _ _ _ _ = absurd (true≢false e)
+masked-cell Rgba d masks file row rest w x _ ok r g b a bytes l = cell-shown d 4 false masks file row rest w x ok r g b a bytes l
+masked-cell Rgb24 d masks file row rest w x _ ok r g b a bytes l = cell-shown d 3 false masks file row rest w x ok r g b a bytes l
+masked-cell Bgra d masks file row rest w x _ ok r g b a bytes l = cell-shown d 4 true masks file row rest w x ok r g b a bytes l
+masked-cell Bgr24 d masks file row rest w x _ ok r g b a bytes l = cell-shown d 3 true masks file row rest w x ok r g b a bytes l
+masked-cell Rgb555 d masks file row rest w x e _ _ _ _ _ _ _ = absurd (true≢false e)
+masked-cell Rgb565 d masks file row rest w x e _ _ _ _ _ _ _ = absurd (true≢false e)
+masked-cell Pal8 d masks file row rest w x e _ _ _ _ _ _ _ = absurd (true≢false e)
+masked-cell Indexed4 d masks file row rest w x e _ _ _ _ _ _ _ = absurd (true≢false e)
+masked-cell Indexed2 d masks file row rest w x e _ _ _ _ _ _ _ = absurd (true≢false e)
+masked-cell Indexed1 d masks file row rest w x e _ _ _ _ _ _ _ = absurd (true≢false e)

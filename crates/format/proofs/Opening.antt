@@ -5,21 +5,21 @@ use mathlib.Core.Bool.{Bool, true, false, false≢true, not, cond, _&&_}
 use mathlib.Core.List.{List}
 use Prim.Native.Nat.{ℕ, _≤_}
 use borrow.Author.Tests.{le-ltb}
-use lib.Dec.{eqb, ltb}
+use lib.Dec.{eqb}
 use lib.ListN.{length}
 use Rattle.leaves.specs.declared.image.BmpPixelFormat.{BmpPixelFormat}
 use Rattle.leaves.specs.declared.image.BmpPixelFormat.the-variants.{Rgba, Rgb24, Bgra, Bgr24, Rgb555, Rgb565, Pal8, Indexed4, Indexed2, Indexed1}
 use Rattle.leaves.specs.Formats.{bitsPerPixel}
 use Rattle.leaves.specs.Masks.{hasAlphaMask}
-use Rattle.leaves.specs.Refusals.{profileMode}
 use Rattle.format.specs.Input.{Input}
-use Rattle.format.specs.File.{Mode, masked, calibrated, profiled, plain, modeOf, depthIn, isRgb565, coded, isPlain, rlePlanned, streamOf, budget, streamUsed, maxFile, compressionOf, fileOf}
+use Rattle.format.specs.File.{Mode, masked, calibrated, profiled, plain, modeOf, depthIn, isRgb565, coded, streamUsed, maxFile, compressionOf, fileOf}
 use Rattle.format.specs.Accepted.{Accepted}
 use Rattle.format.specs.Refusals.{maskSource}
 use Rattle.format.specs.Readers.{Reader, older, newer, unknownDepth, unknownCompression, Reading, refuses, Fields, fieldsOf, knowsDepth, knowsCompression, pairs, headNeeds, body, readFields, read}
 use Rattle.format.specs.Demand.{twoBits, alphaMasked}
 use Rattle.format.proofs.HeadFields.{fields-read}
 use Rattle.format.proofs.HeadWhole.{head-long, first-there}
+use Rattle.format.proofs.Modes.{isMasked, given-mode, used-in}
 
 -- ---- any file
 
@@ -107,35 +107,6 @@ plain-opens f false h = rows-open f
 
 -- ---- the file
 
--- a stream is planned only of such a source
-used-coded : (i : Input) → streamUsed maxFile i ≡ true → coded (i .source .format) ≡ true
-unfolding streamUsed rlePlanned
-used-coded i e =
-    go (isPlain (modeOf i)) (coded (i .source .format)) (i .options .rle) (not (i .options .«top_down»)) (ltb (length (streamOf i)) (budget maxFile i)) e
-  where
-    go : (p c o d s : Bool) → ((p && c && o && d) && s) ≡ true → c ≡ true
-    go true true o d s e = refl
-    go true false o d s e = e
-    go false c o d s e = absurd (false≢true e)
-
-abbrev isMasked : Mode → Bool
-isMasked masked = true
-isMasked calibrated = false
-isMasked profiled = false
-isMasked plain = false
-
--- masks are given exactly in mask mode
-given-mode : (i : Input) → i .options .«has_bitfields» ≡ isMasked (modeOf i)
-unfolding modeOf
-given-mode i =
-    go (i .options .«has_bitfields») (i .options .«has_calibrated_rgb») (profileMode (i .source .«has_linked_icc») (i .source .«has_icc») (i .options .«embed_icc»))
-  where
-    go : (a b c : Bool) → a ≡ isMasked (cond a masked (cond b calibrated (cond c profiled plain)))
-    go true b c = refl
-    go false true c = refl
-    go false false true = refl
-    go false false false = refl
-
 module _ (i : Input) (a : Accepted i) where
   -- by the mode
   mode-opens : (m : Mode) → i .options .«has_bitfields» ≡ isMasked m
@@ -146,7 +117,7 @@ module _ (i : Input) (a : Accepted i) where
       (not-two (i .source .format) (a .samples e)) (a .masks e .depths)
   mode-opens calibrated e = rows-open (i .source .format)
   mode-opens profiled e = rows-open (i .source .format)
-  mode-opens plain e = plain-opens (i .source .format) (streamUsed maxFile i) (used-coded i)
+  mode-opens plain e = plain-opens (i .source .format) (streamUsed maxFile i) (λ e. used-in maxFile i e .source)
 
   -- the readers take the compression and depth that were written
   file-opens : Opens (twoBits (i .source .format)) (alphaMasked i) (fieldsOf (fileOf maxFile i) .compression) (fieldsOf (fileOf maxFile i) .depth)
@@ -155,7 +126,7 @@ module _ (i : Input) (a : Accepted i) where
       rw (fields-read i a, alpha) (mode-opens (modeOf i) (given-mode i))
 
   needs-there : headNeeds (fieldsOf (fileOf maxFile i)) ≤ length (fileOf maxFile i)
-  needs-there = head-long i (a .nine-endpoints) (a .three-gammas) a
+  needs-there = head-long i a
 
 -- ---- the readers
 

@@ -3,57 +3,34 @@ use mathlib.Core.Path.{_≡_, refl, sym, ap, _∙_}
 use mathlib.Core.Bool.{Bool, true, false, cond, _||_}
 use mathlib.Core.List.{List, _++_}
 use Prim.Native.Nat.{ℕ, suc, _+_, _-_, _*_, _/_, _≤_, _<_}
-use native.Mathlib.Nat.{suc-mul, mul-le-mul-right, mul-comm}
+use native.Mathlib.Nat.{suc-mul, mul-comm}
 use native.Mathlib.Omega.{arith}
-use borrow.Author.Tests.{le-ltb, le-leb, lt-leb, eqb-false}
-use lib.Dec.{eqb, leb}
+use borrow.Author.Tests.{le-ltb, eqb-false}
+use lib.Dec.{eqb}
 use lib.ListN.{length, getD, drop}
 use lib.Seq.{drop-drop}
 use Rattle.leaves.specs.declared.image.BmpPixelFormat.{BmpPixelFormat}
 use Rattle.leaves.specs.declared.image.BmpPixelFormat.the-variants.{Rgba, Rgb24, Bgra, Bgr24, Rgb555, Rgb565, Pal8, Indexed4, Indexed2, Indexed1}
 use Rattle.leaves.specs.Formats.{bytesPerPixel, bitsPerPixel}
-use Rattle.leaves.specs.Lists.{tab}
-use Rattle.leaves.specs.Refusals.{profileMode}
 use Rattle.leaves.specs.Masks.{hasAlphaMask, maskCompression}
-use Rattle.leaves.specs.Sizes.{rowStride, clrUsed}
+use Rattle.leaves.specs.Sizes.{rowStride}
 use Rattle.rows.specs.StoredRows.{storedRow, storedRows, packBits, packBytes, rowOf, sourceRow}
 use Rattle.format.specs.Accepted.{Accepted}
 use Rattle.format.specs.Expectation.{pixelBytes, handed, plainlyShown, fittedShown, cellShown, paletteShown, expected}
-use Rattle.format.specs.File.{Mode, masked, calibrated, profiled, plain, modeOf, tailOf, depthIn, plainPack, packIn, isRgb565, headerSize, headBytes, rawBytes, entriesOf, streamOf, streamUsed, maxFile, storedRowsOf, pixels, storedHeight, compressionOf, fileSize, fileOf}
+use Rattle.format.specs.File.{Mode, masked, calibrated, profiled, plain, modeOf, tailOf, depthIn, plainPack, packIn, isRgb565, headBytes, rawBytes, streamOf, streamUsed, maxFile, storedRowsOf, pixels, compressionOf, fileSize, fileOf}
 use Rattle.format.specs.Input.{Input}
-use Rattle.format.specs.Readers.{shows, Fields, fieldsOf, topFirst, shownHeight, rowLength, cellWord, rgbCell, maskCell, plainCell, storedAt, paletteOf, picture, pixelNeeds, body}
-use Rattle.format.specs.Shown.{Cell, Shown}
-use Rattle.leaves.proofs.ListLaws.{tab-ext}
-use Rattle.rows.proofs.AllRows.{rowAt, length-rowAt, row-within}
+use Rattle.format.specs.Readers.{shows, fieldsOf, shownHeight, rowLength, cellWord, rgbCell, maskCell, plainCell, paletteOf, picture, pixelNeeds, body}
+use Rattle.format.specs.Shown.{Cell}
+use Rattle.rows.proofs.AllRows.{rowAt, length-rowAt}
 use Rattle.format.proofs.FileSizes.{pack-ok, length-rows}
-use Rattle.format.proofs.HeadFields.{masks-given, pixels-at, length-file, fields-read}
+use Rattle.format.proofs.HeadFields.{pixels-at, length-file, fieldsIn, fields-read}
 use Rattle.format.proofs.HeadMasks.{ColourMasks, masks-read, alpha-read, rgb565-read}
 use Rattle.format.proofs.HeadTable.{palette-read}
-use Rattle.format.proofs.HeadWhole.{calibrated-other, profiled-other, plain-other}
 use Rattle.format.proofs.MaskedCells.{masked-cell}
+use Rattle.format.proofs.Modes.{masks-given, masks-absent}
+use Rattle.format.proofs.Pictures.{height-shown, row-back, row-stored, picture-shown}
 use Rattle.format.proofs.PlainCells.{length-row, plain-cell, rgb565-cell}
-use Rattle.format.proofs.SourceRows.{length-source, source-at, source-small, plainly-of, fitted-of, Begins, joined-at}
-
--- ---- heights
-
--- the sign of the stored height is the option
-pub top-first : (td : Bool) (h : ℕ) → 0 < h → h < 2147483648 → leb 2147483648 (cond td (4294967296 - h) h) ≡ td
-top-first true h p q = le-leb 2147483648 (4294967296 - h) (omega arith)
-top-first false h p q = lt-leb 2147483648 h (omega arith)
-
--- and its magnitude the height
-pub magnitude : (td : Bool) (h : ℕ) → h < 2147483648 → cond td (4294967296 - cond td (4294967296 - h) h) (cond td (4294967296 - h) h) ≡ h
-magnitude true h q = omega arith
-magnitude false h q = refl
-
--- the stored row of a shown row is stored, and is that row
-row-back : (td : Bool) (h y : ℕ) → y < h → rowOf td h (cond td y (h - 1 - y)) ≡ y
-row-back true h y l = refl
-row-back false h y l = omega arith
-
-row-stored : (td : Bool) (h y : ℕ) → y < h → cond td y (h - 1 - y) < h
-row-stored true h y l = l
-row-stored false h y l = omega arith
+use Rattle.format.proofs.SourceRows.{length-source, source-at, source-small, within, plainly-of, fitted-of, Begins, joined-at}
 
 -- ---- formats
 
@@ -98,20 +75,20 @@ abbrev cellIn : List ℕ → ℕ → ℕ → List ℕ → ℕ → Cell
 cellIn file c d row x = cond (eqb c 0) (rgbCell d row x) (maskCell file c (cellWord d row x))
 
 -- without masks, by the source
-plain-shown : (f : BmpPixelFormat) (file source rest : List ℕ) (w x : ℕ) → (f ≡ Rgb565 → ColourMasks file 0xF800 0x07E0 0x001F) → ((k : ℕ) → getD source k 0 < 256)
+plain-shown : (f : BmpPixelFormat) (file source rest : List ℕ) (w x : ℕ) → (f ≡ Rgb565 → ColourMasks file 0xF800 0x07E0 0x001F)
     → length source ≡ w * bytesPerPixel f → x < w
     → cellIn file (rowCode f) (bitsPerPixel f) (storedRow (plainPack f) w source ++ rest) x ≡ plainlyShown f (λ k. getD source (x * pixelBytes f + k) 0)
-plain-shown Rgba file source rest w x m small e l = plain-cell Rgba w source rest x refl small e l
-plain-shown Rgb24 file source rest w x m small e l = plain-cell Rgb24 w source rest x refl small e l
-plain-shown Bgra file source rest w x m small e l = plain-cell Bgra w source rest x refl small e l
-plain-shown Bgr24 file source rest w x m small e l = plain-cell Bgr24 w source rest x refl small e l
-plain-shown Rgb555 file source rest w x m small e l = plain-cell Rgb555 w source rest x refl small e l
-plain-shown Rgb565 file source rest w x m small e l =
-    rgb565-cell file w source rest x (m refl .red-mask) (m refl .green-mask) (m refl .blue-mask) small e l
-plain-shown Pal8 file source rest w x m small e l = plain-cell Pal8 w source rest x refl small e l
-plain-shown Indexed4 file source rest w x m small e l = plain-cell Indexed4 w source rest x refl small e l
-plain-shown Indexed2 file source rest w x m small e l = plain-cell Indexed2 w source rest x refl small e l
-plain-shown Indexed1 file source rest w x m small e l = plain-cell Indexed1 w source rest x refl small e l
+plain-shown Rgba file source rest w x m e l = plain-cell Rgba w source rest x refl e l
+plain-shown Rgb24 file source rest w x m e l = plain-cell Rgb24 w source rest x refl e l
+plain-shown Bgra file source rest w x m e l = plain-cell Bgra w source rest x refl e l
+plain-shown Bgr24 file source rest w x m e l = plain-cell Bgr24 w source rest x refl e l
+plain-shown Rgb555 file source rest w x m e l = plain-cell Rgb555 w source rest x refl e l
+plain-shown Rgb565 file source rest w x m e l =
+    rgb565-cell file w source rest x (m refl .red-mask) (m refl .green-mask) (m refl .blue-mask) e l
+plain-shown Pal8 file source rest w x m e l = plain-cell Pal8 w source rest x refl e l
+plain-shown Indexed4 file source rest w x m e l = plain-cell Indexed4 w source rest x refl e l
+plain-shown Indexed2 file source rest w x m e l = plain-cell Indexed2 w source rest x refl e l
+plain-shown Indexed1 file source rest w x m e l = plain-cell Indexed1 w source rest x refl e l
 
 -- with masks the compression is not 0
 masked-code : (masks : List ℕ) → eqb (maskCompression masks) 0 ≡ false
@@ -151,26 +128,7 @@ needs-le o h w d len k = rw (length-row d w) (go (eqb h 0) refl)
         let q : h ≡ suc (h - 1) = omega (arith, eqb-false h 0 e) in
         omega (arith, k, cells-short (w * d), suc-mul (h - 1) r, mul-comm r (suc (h - 1)), ap (λ (z : ℕ). r * z) q)
 
--- ---- pictures
-
--- a picture shows what it must if its parts are so
-pub picture-shown : (file : List ℕ) (t : Fields) (cell : ℕ → ℕ → Cell) (s : Shown) → t .width ≡ s .width → shownHeight t ≡ s .height → paletteOf file t ≡ s .palette
-    → tab (λ y. tab (λ x. cell (storedAt t y) x) (t .width)) (shownHeight t) ≡ s .rows → picture file t cell ≡ shows s
-unfolding picture
-picture-shown file t cell s w h p r = λ z. shows (record { width = w z; height = h z; palette = p z; rows = r z })
-
 -- ---- the call
-
--- only mask mode has masks
-not-given : (i : Input) → (modeOf i ≡ masked → ⊥) → i .options .«has_bitfields» ≡ false
-unfolding modeOf
-not-given i never =
-    go (i .options .«has_bitfields»)
-    (cond (i .options .«has_calibrated_rgb») calibrated (cond (profileMode (i .source .«has_linked_icc») (i .source .«has_icc») (i .options .«embed_icc»)) profiled plain)) refl never
-  where
-    go : (b : Bool) (other : Mode) → i .options .«has_bitfields» ≡ b → (cond b masked other ≡ masked → ⊥) → i .options .«has_bitfields» ≡ false
-    go true other q n = absurd (n refl)
-    go false other q n = q
 
 -- what must be shown, by whether masks are given
 shown-by : (i : Input) (y x : ℕ) (b : Bool) → i .options .«has_bitfields» ≡ b
@@ -186,12 +144,6 @@ module _ (i : Input) (a : Accepted i) (no : streamUsed maxFile i ≡ false) wher
   abbrev sourceIn : ℕ → List ℕ
   sourceIn y = sourceRow (i .plane) (i .source .stride) (i .source .width * bytesPerPixel (i .source .format)) y
 
-  -- a row's pixels are in the plane
-  inside : (y : ℕ) → y < i .source .height → y * i .source .stride + i .source .width * bytesPerPixel (i .source .format) ≤ length (i .plane)
-  inside y l =
-      row-within y (i .source .height) (i .source .stride) (i .source .width) (bytesPerPixel (i .source .format)) (bytesPerPixel (i .source .format)) (length (i .plane)) l refl
-      (a .rows-inside) (a .plane-long)
-
   -- byte k of pixel x of the source row is the byte handed in
   handed-byte : (y x k : ℕ) → x < i .source .width → k < pixelBytes (i .source .format) → getD (sourceIn y) (x * pixelBytes (i .source .format) + k) 0 ≡ handed i y x k
   unfolding handed
@@ -199,7 +151,7 @@ module _ (i : Input) (a : Accepted i) (no : streamUsed maxFile i ≡ false) wher
       let n : ℕ = pixelBytes (i .source .format) in
       let same : bytesPerPixel (i .source .format) ≡ n = bytes-alike (i .source .format) in
       source-at (i .plane) (i .source .stride) (i .source .width * bytesPerPixel (i .source .format)) y (x * n + k)
-      (rw same (omega (arith, suc-mul x n, mul-le-mul-right n l)))
+      (rw same (within x (i .source .width) n k l m))
       ∙ ap (λ (z : ℕ). getD (i .plane) z 0) (omega arith)
 
   -- the rows stand where the head ends
@@ -222,15 +174,14 @@ module _ (i : Input) (a : Accepted i) (no : streamUsed maxFile i ≡ false) wher
       (length-rowAt (packIn (modeOf i) i) (ok .0) (i .source .width) (i .source .height) (i .options .«top_down») (i .plane) (i .source .stride)) l)
 
   -- a cell of a row that begins with the stored row, by the mode
-  cell-plain : (y x : ℕ) (rest : List ℕ) → (modeOf i ≡ masked → ⊥) → y < i .source .height → x < i .source .width
+  cell-plain : (y x : ℕ) (rest : List ℕ) → i .options .«has_bitfields» ≡ false → y < i .source .height → x < i .source .width
       → cellIn file (rowCode (i .source .format)) (bitsPerPixel (i .source .format)) (storedRow (plainPack (i .source .format)) (i .source .width) (sourceIn y) ++ rest) x
       ≡ cellShown i y x
-  cell-plain y x rest never l m =
+  cell-plain y x rest off l m =
       plain-shown (i .source .format) file (sourceIn y) rest (i .source .width) x (rgb565-read i a)
-      (source-small (i .plane) (i .source .stride) (i .source .width * bytesPerPixel (i .source .format)) y (a .plane-bytes))
-      (length-source (i .plane) (i .source .stride) (i .source .width * bytesPerPixel (i .source .format)) y (inside y l)) m
+      (length-source (i .plane) (i .source .stride) (i .source .width * bytesPerPixel (i .source .format)) (i .source .height) y (a .rows-inside) (a .plane-long) l) m
       ∙ plainly-of (i .source .format) _ (handed i y x) (λ k o. handed-byte y x k m o)
-      ∙ sym (shown-by i y x false (not-given i never))
+      ∙ sym (shown-by i y x false off)
 
   cell-mode : (m : Mode) → modeOf i ≡ m → (y x : ℕ) (rest : List ℕ) → y < i .source .height → x < i .source .width
       → cellIn file (compressionOf maxFile m i) (depthIn m i) (storedRow (packIn m i) (i .source .width) (sourceIn y) ++ rest) x ≡ cellShown i y x
@@ -241,13 +192,12 @@ module _ (i : Input) (a : Accepted i) (no : streamUsed maxFile i ≡ false) wher
       rw (masked-code (i .options .bitfields .masks))
       (masked-cell (i .source .format) (i .options .bitfields .bpp) (i .options .bitfields .masks) file (sourceIn y) rest (i .source .width) x (a .samples given) (a .masks given)
       (read .red-mask) (read .green-mask) (read .blue-mask) (alpha-read i a e)
-      (source-small (i .plane) (i .source .stride) (i .source .width * bytesPerPixel (i .source .format)) y (a .plane-bytes))
-      (length-source (i .plane) (i .source .stride) (i .source .width * bytesPerPixel (i .source .format)) y (inside y l)) m
+      (source-small (i .plane) (i .source .stride) (i .source .width * bytesPerPixel (i .source .format)) y (a .plane-bytes)) m
       ∙ fitted-of (i .source .format) (i .options .bitfields .masks) _ (handed i y x) (λ k o. handed-byte y x k m o)
       ∙ sym (shown-by i y x true given))
-  cell-mode calibrated e y x rest l m = cell-plain y x rest (λ q. calibrated-other (sym e ∙ q)) l m
-  cell-mode profiled e y x rest l m = cell-plain y x rest (λ q. profiled-other (sym e ∙ q)) l m
-  cell-mode plain e y x rest l m = rw no (cell-plain y x rest (λ q. plain-other (sym e ∙ q)) l m)
+  cell-mode calibrated e y x rest l m = cell-plain y x rest (masks-absent i calibrated e refl) l m
+  cell-mode profiled e y x rest l m = cell-plain y x rest (masks-absent i profiled e refl) l m
+  cell-mode plain e y x rest l m = rw no (cell-plain y x rest (masks-absent i plain e refl) l m)
 
   -- rows have no stream's compression
   rows-code : (m : Mode) → (eqb (compressionOf maxFile m i) 1 || eqb (compressionOf maxFile m i) 2) ≡ false
@@ -257,39 +207,16 @@ module _ (i : Input) (a : Accepted i) (no : streamUsed maxFile i ≡ false) wher
   rows-code profiled = plain-rows (isRgb565 (i .source .format))
   rows-code plain = rw no (plain-rows (isRgb565 (i .source .format)))
 
-  -- the fields, named
-  abbrev fields : Fields
-  fields =
-      record {
-        offset = headBytes i;
-        headerSize = headerSize (modeOf i) (i .source .format);
-        width = i .source .width;
-        height = storedHeight i;
-        depth = depthIn (modeOf i) i;
-        compression = compressionOf maxFile (modeOf i) i;
-        colours = clrUsed (depthIn (modeOf i) i) (entriesOf i);
-      }
+  tall : shownHeight (fieldsIn i) ≡ i .source .height
+  tall = height-shown (fieldsIn i) (i .options .«top_down») (i .source .height) (a .some-height) (a .tall) refl
 
-  top : topFirst fields ≡ i .options .«top_down»
-  top = top-first (i .options .«top_down») (i .source .height) (a .some-height) (a .tall)
-
-  tall : shownHeight fields ≡ i .source .height
-  tall =
-      ap (λ (b : Bool). cond b (4294967296 - storedHeight i) (storedHeight i)) top
-      ∙ magnitude (i .options .«top_down») (i .source .height) (a .tall)
-
-  -- the stored row of row y
-  stored : (y : ℕ) → storedAt fields y ≡ cond (i .options .«top_down») y (i .source .height - 1 - y)
-  stored y = (λ z. cond (top z) y (tall z - 1 - y))
-
-  -- every cell
-  cell-shown : (y x : ℕ) → y < i .source .height → x < i .source .width → plainCell file fields (storedAt fields y) x ≡ cellShown i y x
+  -- every cell, by the stored row that it is in
+  cell-shown : (y x : ℕ) → y < i .source .height → x < i .source .width
+      → plainCell file (fieldsIn i) (cond (i .options .«top_down») y (i .source .height - 1 - y)) x ≡ cellShown i y x
   unfolding plainCell
   cell-shown y x l m =
-      let s : ℕ = cond (i .options .«top_down») y (i .source .height - 1 - y) in
-      let from = row-there s (row-stored (i .options .«top_down») (i .source .height) y l) in
-      ap (λ (n : ℕ). plainCell file fields n x) (stored y)
-      ∙ ap (λ (row : List ℕ). cellIn file (compressionOf maxFile (modeOf i) i) (depthIn (modeOf i) i) row x) (from .is)
+      let from = row-there (cond (i .options .«top_down») y (i .source .height - 1 - y)) (row-stored (i .options .«top_down») (i .source .height) y l) in
+      ap (λ (row : List ℕ). cellIn file (compressionOf maxFile (modeOf i) i) (depthIn (modeOf i) i) row x) (from .is)
       ∙ ap (λ (n : ℕ). cellIn file (compressionOf maxFile (modeOf i) i) (depthIn (modeOf i) i) (storedRow (packIn (modeOf i) i) (i .source .width) (sourceIn n) ++ from .rest) x)
       (row-back (i .options .«top_down») (i .source .height) y l)
       ∙ cell-mode (modeOf i) refl y x (from .rest) l m
@@ -304,7 +231,7 @@ module _ (i : Input) (a : Accepted i) (no : streamUsed maxFile i ≡ false) wher
       omega (arith, length-file i, rows)
 
   -- the last row's cells are in the file
-  rows-long : pixelNeeds fields ≤ length file
+  rows-long : pixelNeeds (fieldsIn i) ≤ length file
   unfolding pixelNeeds
   rows-long =
       let d : ℕ = depthIn (modeOf i) i in
@@ -313,15 +240,13 @@ module _ (i : Input) (a : Accepted i) (no : streamUsed maxFile i ≡ false) wher
       (needs-le (headBytes i) (i .source .height) w d (length file) (omega (arith, file-long)))
 
   -- the palette
-  colours : paletteOf file fields ≡ paletteShown i
-  colours = ap (paletteOf file) (sym (fields-read i a)) ∙ palette-read i a (a .nine-endpoints) (a .three-gammas)
+  colours : paletteOf file (fieldsIn i) ≡ paletteShown i
+  colours = ap (paletteOf file) (sym (fields-read i a)) ∙ palette-read i a
 
   -- what the readers show of stored rows is what must be shown
   pub plain-body : body file (fieldsOf file) ≡ shows (expected i)
   unfolding body expected
   plain-body =
-      rw (fields-read i a, rows-code (modeOf i), le-ltb (length file) (pixelNeeds fields) rows-long)
-      (picture-shown file fields (plainCell file fields) (expected i) refl tall colours
-      (tab-ext (λ y. tab (λ x. plainCell file fields (storedAt fields y) x) (i .source .width)) (λ y. tab (λ x. cellShown i y x) (i .source .width)) (shownHeight fields)
-      (λ y l. tab-ext _ _ (i .source .width) (λ x m. cell-shown y x (omega (arith, l, tall)) m))
-      ∙ ap (tab (λ y. tab (λ x. cellShown i y x) (i .source .width))) tall))
+      rw (fields-read i a, rows-code (modeOf i), le-ltb (length file) (pixelNeeds (fieldsIn i)) rows-long)
+      (picture-shown file (fieldsIn i) (plainCell file (fieldsIn i)) (cellShown i) (i .options .«top_down») (i .source .width) (i .source .height) (paletteShown i)
+      (a .some-height) (a .tall) refl refl colours cell-shown)

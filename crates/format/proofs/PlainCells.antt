@@ -1,5 +1,5 @@
 -- What a reader finds in a stored row without masks is what must be shown (document 01, Cells), cell by cell.
-use mathlib.Core.Path.{_≡_, refl, sym, ap, _∙_}
+use mathlib.Core.Path.{_≡_, refl, sym, ap}
 use mathlib.Core.Bool.{Bool, true, false, cond, false≢true}
 use mathlib.Core.List.{List, _++_}
 use Prim.Native.Nat.{ℕ, _+_, _-_, _*_, _/_, _%_, _^_, _≤_, _<_}
@@ -9,7 +9,7 @@ use borrow.Author.Tests.{eqb-true, eqb-false}
 use lib.Bits.{and-high}
 use lib.Count.{trailingZeros}
 use lib.Dec.{leb, eqb}
-use lib.ListN.{length, getD, replicate, length-append, List·getD-append}
+use lib.ListN.{length, getD}
 use lib.Pow.{shl-shr}
 use Rattle.leaves.specs.declared.image.BmpPixelFormat.{BmpPixelFormat}
 use Rattle.leaves.specs.declared.image.BmpPixelFormat.the-variants.{Rgba, Rgb24, Bgra, Bgr24, Rgb555, Rgb565, Pal8, Indexed4, Indexed2, Indexed1}
@@ -23,9 +23,10 @@ use Rattle.format.specs.Expectation.{pixelBytes, word565, plainlyShown}
 use Rattle.format.specs.File.{plainPack, isRgb565}
 use Rattle.format.specs.Readers.{wordAt, dwordAt, rowLength, cellWord, five, rgbCell, channel, maskCell}
 use Rattle.format.specs.Shown.{index, rgb}
-use Rattle.leaves.proofs.ListLaws.{length-tab, length-cat, getD-cat}
+use Rattle.leaves.proofs.ListLaws.{length-tab}
 use Rattle.rows.proofs.PackLaws.{depth}
 use Rattle.rows.proofs.Unpacking.{packed-at, cellAt-append}
+use Rattle.format.proofs.SourceRows.{padded-at, cells-at}
 
 -- ---- the row's length
 
@@ -38,26 +39,6 @@ groups n false e = omega (arith, pos-of-ne-zero (eqb-false (n % 32) 0 e))
 pub length-row : (d w : ℕ) → rowLength w d ≡ rowStride w d
 unfolding rowLength rowStride
 length-row d w = groups (w * d) (eqb (w * d % 32) 0) refl
-
--- ---- bytes of a stored row
-
--- zeros and what follows the row change none of its bytes
-padded-at : (n : ℕ) (bytes rest : List ℕ) (i : ℕ) → i < length bytes → getD (padded n bytes ++ rest) i 0 ≡ getD bytes i 0
-unfolding padded
-padded-at n bytes rest i h =
-    List·getD-append (bytes ++ replicate (n - length bytes) 0) rest 0 i (simp length-append (omega arith))
-    ∙ List·getD-append bytes (replicate (n - length bytes) 0) 0 i h
-
--- byte i of pixel x is one of the row's
-within : (x w k i : ℕ) → x < w → i < k → x * k + i < w * k
-within x w k i h l = omega (arith, mul-le-mul-right k h, suc-mul x k)
-
--- byte i of cell x, of cells of k bytes
-cells-at : (cell : ℕ → List ℕ) (k n w : ℕ) (rest : List ℕ) (x i : ℕ) → ((j : ℕ) → length (cell j) ≡ k) → x < w → i < k
-    → getD (padded n (cat cell w) ++ rest) (x * k + i) 0 ≡ getD (cell x) i 0
-cells-at cell k n w rest x i size h l =
-    let all : length (cat cell w) ≡ w * k = length-cat cell k w (λ j m. size j) in
-    padded-at n (cat cell w) rest (x * k + i) (omega (arith, within x w k i h l)) ∙ getD-cat cell k w x i 0 (λ j m. size j) l h
 
 -- ---- cells of 24 and 32 bits
 
@@ -114,26 +95,26 @@ masked565 v = rw (bits-under 0xF800 5 11 v refl refl refl, bits-under 0x07E0 6 5
 -- ---- the cells of each source
 
 -- a cell shown as the source says, but for Rgb565
-pub plain-cell : (f : BmpPixelFormat) (w : ℕ) (row rest : List ℕ) (x : ℕ) → isRgb565 f ≡ false → ((k : ℕ) → getD row k 0 < 256)
+pub plain-cell : (f : BmpPixelFormat) (w : ℕ) (row rest : List ℕ) (x : ℕ) → isRgb565 f ≡ false
     → length row ≡ w * bytesPerPixel f → x < w
     → rgbCell (bitsPerPixel f) (storedRow (plainPack f) w row ++ rest) x ≡ plainlyShown f (λ k. getD row (x * pixelBytes f + k) 0)
 unfolding storedRow plainlyShown cell24 cell32 rgbCell
-plain-cell Rgba w row rest x p small e h = deep-cell (cell32 false row) 32 4 (rowStride w 32) w rest x refl (omega arith) (λ j. refl) refl refl h
-plain-cell Rgb24 w row rest x p small e h = deep-cell (cell24 false row) 24 3 (rowStride w 24) w rest x refl (omega arith) (λ j. refl) refl refl h
-plain-cell Bgra w row rest x p small e h = deep-cell (cell32 true row) 32 4 (rowStride w 32) w rest x refl (omega arith) (λ j. refl) refl refl h
-plain-cell Bgr24 w row rest x p small e h = deep-cell (cell24 true row) 24 3 (rowStride w 24) w rest x refl (omega arith) (λ j. refl) refl refl h
-plain-cell Rgb555 w row rest x p small e h = ap five (word-cell (rowStride w 16) w row rest x e h)
-plain-cell Rgb565 w row rest x p small e h = absurd (false≢true (sym p))
-plain-cell Pal8 w row rest x p small e h = index-cell 8 w row rest x refl refl h
-plain-cell Indexed4 w row rest x p small e h = index-cell 4 w row rest x refl refl h
-plain-cell Indexed2 w row rest x p small e h = index-cell 2 w row rest x refl refl h
-plain-cell Indexed1 w row rest x p small e h = index-cell 1 w row rest x refl refl h
+plain-cell Rgba w row rest x p e h = deep-cell (cell32 false row) 32 4 (rowStride w 32) w rest x refl (omega arith) (λ j. refl) refl refl h
+plain-cell Rgb24 w row rest x p e h = deep-cell (cell24 false row) 24 3 (rowStride w 24) w rest x refl (omega arith) (λ j. refl) refl refl h
+plain-cell Bgra w row rest x p e h = deep-cell (cell32 true row) 32 4 (rowStride w 32) w rest x refl (omega arith) (λ j. refl) refl refl h
+plain-cell Bgr24 w row rest x p e h = deep-cell (cell24 true row) 24 3 (rowStride w 24) w rest x refl (omega arith) (λ j. refl) refl refl h
+plain-cell Rgb555 w row rest x p e h = ap five (word-cell (rowStride w 16) w row rest x e h)
+plain-cell Rgb565 w row rest x p e h = absurd (false≢true (sym p))
+plain-cell Pal8 w row rest x p e h = index-cell 8 w row rest x refl refl h
+plain-cell Indexed4 w row rest x p e h = index-cell 4 w row rest x refl refl h
+plain-cell Indexed2 w row rest x p e h = index-cell 2 w row rest x refl refl h
+plain-cell Indexed1 w row rest x p e h = index-cell 1 w row rest x refl refl h
 
 -- a cell of Rgb565, under the masks that its header holds
 pub rgb565-cell : (file : List ℕ) (w : ℕ) (row rest : List ℕ) (x : ℕ) → dwordAt file 54 ≡ 0xF800 → dwordAt file 58 ≡ 0x07E0 → dwordAt file 62 ≡ 0x001F
-    → ((k : ℕ) → getD row k 0 < 256) → length row ≡ w * 2 → x < w
+    → length row ≡ w * 2 → x < w
     → maskCell file 3 (cellWord 16 (storedRow Words16 w row ++ rest) x) ≡ plainlyShown Rgb565 (λ k. getD row (x * 2 + k) 0)
 unfolding maskCell plainlyShown storedRow
-rgb565-cell file w row rest x red green blue small e h =
+rgb565-cell file w row rest x red green blue e h =
     rw (word-cell (rowStride w 16) w row rest x e h, red, green, blue)
     (masked565 (getD row (x * 2 + 0) 0 + 256 * getD row (x * 2 + 1) 0))

@@ -3,22 +3,25 @@ use mathlib.Core.Path.{_≡_, refl, _∙_}
 use mathlib.Core.Logic.{_⊎_, inl, inr}
 use mathlib.Core.List.{List, [], _∷_, _++_, append-assoc}
 use Prim.Native.Nat.{ℕ, zero, suc, _+_, _-_, _*_, _≤_, _<_}
-use native.Mathlib.Nat.{not-suc-le-zero, le-of-suc-le-suc, eq-or-lt-of-le}
+use native.Mathlib.Nat.{not-suc-le-zero, le-of-suc-le-suc, eq-or-lt-of-le, suc-mul, mul-le-mul-right}
 use native.Mathlib.Omega.{arith}
-use lib.ListN.{length, getD, take, drop, length-take, length-drop}
-use lib.Seq.{getD-take, getD-drop, drop-at}
+use lib.ListN.{length, getD, take, drop, length-drop, replicate, length-append, List·getD-append}
+use lib.Seq.{length-take-le, getD-take, getD-drop, drop-at}
 use Rattle.leaves.specs.declared.image.BmpPixelFormat.{BmpPixelFormat}
 use Rattle.leaves.specs.declared.image.BmpPixelFormat.the-variants.{Rgba, Rgb24, Bgra, Bgr24, Rgb555, Rgb565, Pal8, Indexed4, Indexed2, Indexed1}
 use Rattle.leaves.specs.Lists.{cat}
-use Rattle.rows.specs.StoredRows.{sourceRow}
+use Rattle.rows.specs.StoredRows.{padded, sourceRow}
 use Rattle.format.specs.Expectation.{pixelBytes, plainlyShown, fittedShown}
-use Rattle.leaves.proofs.ListLaws.{length-cat}
+use Rattle.leaves.proofs.ListLaws.{length-cat, getD-cat}
+use Rattle.rows.proofs.AllRows.{row-within}
 
 -- ---- bytes of a source row
 
 -- a source row is as long as its pixels
-pub length-source : (plane : List ℕ) (stride n y : ℕ) → y * stride + n ≤ length plane → length (sourceRow plane stride n y) ≡ n
-length-source plane stride n y h = length-take n (drop (y * stride) plane) ∙ omega (arith, length-drop (y * stride) plane)
+pub length-source : (plane : List ℕ) (stride n h y : ℕ) → n ≤ stride → stride * h ≤ length plane → y < h → length (sourceRow plane stride n y) ≡ n
+length-source plane stride n h y inside long l =
+    length-take-le n (drop (y * stride) plane)
+    (omega (arith, length-drop (y * stride) plane, row-within y h stride n 1 1 (length plane) l refl (omega arith) long))
 
 -- byte k of it, counted in the plane
 pub source-at : (plane : List ℕ) (stride n y k : ℕ) → k < n → getD (sourceRow plane stride n y) k 0 ≡ getD plane (y * stride + k) 0
@@ -82,3 +85,23 @@ joined-at f n (suc h) s rest e l = go (eq-or-lt-of-le (le-of-suc-le-suc l)) (joi
           is = rw (q, append-assoc (cat f h) (f h) rest) (drop-at (cat f h) (f h ++ rest) (h * n) (length-cat f n h (λ k _. e k)));
         }
     go (inr m) before = rw (append-assoc (cat f h) (f h) rest) (before m)
+
+-- ---- bytes of a stored row
+
+-- zeros and what follows the row change none of its bytes
+pub padded-at : (n : ℕ) (bytes rest : List ℕ) (i : ℕ) → i < length bytes → getD (padded n bytes ++ rest) i 0 ≡ getD bytes i 0
+unfolding padded
+padded-at n bytes rest i h =
+    List·getD-append (bytes ++ replicate (n - length bytes) 0) rest 0 i (simp length-append (omega arith))
+    ∙ List·getD-append bytes (replicate (n - length bytes) 0) 0 i h
+
+-- byte i of pixel x is one of the row's
+pub within : (x w k i : ℕ) → x < w → i < k → x * k + i < w * k
+within x w k i h l = omega (arith, mul-le-mul-right k h, suc-mul x k)
+
+-- byte i of cell x, of cells of k bytes
+pub cells-at : (cell : ℕ → List ℕ) (k n w : ℕ) (rest : List ℕ) (x i : ℕ) → ((j : ℕ) → length (cell j) ≡ k) → x < w → i < k
+    → getD (padded n (cat cell w) ++ rest) (x * k + i) 0 ≡ getD (cell x) i 0
+cells-at cell k n w rest x i size h l =
+    let all : length (cat cell w) ≡ w * k = length-cat cell k w (λ j m. size j) in
+    padded-at n (cat cell w) rest (x * k + i) (omega (arith, within x w k i h l)) ∙ getD-cat cell k w x i 0 (λ j m. size j) l h

@@ -1,35 +1,34 @@
 -- What the readers show of a stream.
 use mathlib.Core.Path.{_≡_, refl, sym, ap, _∙_}
 use mathlib.Core.Logic.{_⊎_, inl, inr}
-use mathlib.Core.Bool.{Bool, true, false, not, cond, false≢true, _&&_, _||_}
+use mathlib.Core.Bool.{true, false, cond, false≢true, _||_}
 use mathlib.Core.List.{List, [], _++_}
 use Prim.Native.Nat.{ℕ, zero, suc, _+_, _-_, _*_, _%_, _^_, _≤_, _<_}
 use native.Mathlib.Omega.{arith}
-use borrow.Author.Tests.{lt-leb}
-use lib.Dec.{ltb, leb, eqb}
-use lib.ListN.{length, getD, drop, length-drop}
-use lib.Seq.{getD-take, getD-drop, length-take-le}
+use lib.Dec.{eqb}
+use lib.ListN.{length, getD, drop}
 use Rattle.leaves.specs.declared.image.BmpPixelFormat.{BmpPixelFormat}
 use Rattle.leaves.specs.declared.image.BmpPixelFormat.the-variants.{Rgba, Rgb24, Bgra, Bgr24, Rgb555, Rgb565, Pal8, Indexed4, Indexed2, Indexed1}
 use Rattle.leaves.specs.Formats.{bitsPerPixel, bytesPerPixel}
 use Rattle.leaves.specs.Lists.{tab, cat}
-use Rattle.leaves.specs.Refusals.{profileMode}
 use Rattle.rows.specs.Decode.{filled, decode}
 use Rattle.rows.specs.RleCodes.{cells}
 use Rattle.rows.specs.StoredRows.{rowOf, sourceRow}
 use Rattle.rows.specs.Stream.{stream}
 use Rattle.format.specs.Accepted.{Accepted}
-use Rattle.format.specs.Expectation.{pixelBytes, handed, plainlyShown, cellShown, expected}
-use Rattle.format.specs.File.{Mode, masked, calibrated, profiled, plain, modeOf, tailOf, depthIn, headBytes, coded, isPlain, rlePlanned, streamOf, maxFile, budget, streamUsed, pixels, compressionOf, fileOf}
+use Rattle.format.specs.Expectation.{pixelBytes, handed, plainlyShown, cellShown, paletteShown, expected}
+use Rattle.format.specs.File.{Mode, plain, modeOf, tailOf, depthIn, headBytes, coded, streamOf, maxFile, streamUsed, pixels, compressionOf, fileOf}
 use Rattle.format.specs.Input.{Input}
-use Rattle.format.specs.Readers.{Fields, fieldsOf, shownHeight, storedAt, paletteOf, picture, streamed, body, shows}
+use Rattle.format.specs.Readers.{Fields, fieldsOf, shownHeight, paletteOf, streamed, body, shows}
 use Rattle.format.specs.Shown.{Cell, index}
-use Rattle.leaves.proofs.ListLaws.{tab-ext, getD-cat}
-use Rattle.rows.proofs.AllRows.{row-within}
+use Rattle.leaves.proofs.ListLaws.{getD-cat}
 use Rattle.rows.proofs.Decoding.{decode-stream}
 use Rattle.rows.proofs.Scans.{length-cells, cell-at}
 use Rattle.format.proofs.HeadFields.{pixels-at, fields-read}
 use Rattle.format.proofs.HeadTable.{palette-read}
+use Rattle.format.proofs.Modes.{masks-absent, used-in}
+use Rattle.format.proofs.Pictures.{height-shown, picture-shown}
+use Rattle.format.proofs.SourceRows.{length-source, source-at}
 
 -- ---- any stream
 
@@ -42,8 +41,7 @@ module _ (d w h : ℕ) (plane : List ℕ) (stride : ℕ) (inside : w * 1 ≤ str
   whole-row : (s : ℕ) → s < h → length (sourceRow plane stride w (rowOf false h s)) ≡ w
   whole-row s l =
       let from : h - 1 - s < h = omega arith in
-      length-take-le w (drop ((h - 1 - s) * stride) plane)
-      (omega (arith, length-drop ((h - 1 - s) * stride) plane, row-within (h - 1 - s) h stride w 1 1 (length plane) from refl inside long))
+      length-source plane stride w h (h - 1 - s) (omega arith) long from
 
   -- the cell that is shown at x in row y is the index handed in there, cut to the depth
   cell-filled : (y x : ℕ) → y < h → x < w → getD (allCells d w h plane stride) ((h - 1 - y) * w + x) 0 ≡ getD plane (y * stride + x * 1 + 0) 0 % 2 ^ d
@@ -55,8 +53,7 @@ module _ (d w h : ℕ) (plane : List ℕ) (stride : ℕ) (inside : w * 1 ≤ str
       (λ s m. length-cells d (sourceRow plane stride w (rowOf false h s)) ∙ whole-row s m) k below
       ∙ cell-at d (sourceRow plane stride w (rowOf false h (h - 1 - y))) x
       ∙ ap (λ (z : ℕ). z % 2 ^ d)
-      (getD-take w (drop ((h - 1 - (h - 1 - y)) * stride) plane) x 0 k
-      ∙ getD-drop ((h - 1 - (h - 1 - y)) * stride) plane x 0
+      (source-at plane stride w (h - 1 - (h - 1 - y)) x k
       ∙ ap (λ (z : ℕ). getD plane (z * stride + x) 0) back
       ∙ ap (λ (z : ℕ). getD plane z 0) place)
 
@@ -70,24 +67,22 @@ stream-read d w (suc m) plane stride rest deep some inside long =
     ∙ decode-stream d deep w plane stride m (whole-row d w (suc m) plane stride inside long) rest
 
 -- a reader that finds the stream shows the indices of the plane
-body-read : (file : List ℕ) (t : Fields) (d w h : ℕ) (plane : List ℕ) (stride : ℕ) (rest : List ℕ) (cell : ℕ → ℕ → Cell)
+body-read : (file : List ℕ) (t : Fields) (d w h : ℕ) (colours : List Cell) (plane : List ℕ) (stride : ℕ) (rest : List ℕ) (cell : ℕ → ℕ → Cell)
     → (d ≡ 4) ⊎ (d ≡ 8) → 0 < h → h < 2147483648 → w * 1 ≤ stride → stride * h ≤ length plane
-    → t .width ≡ w → t .height ≡ h → t .depth ≡ d → (eqb (t .compression) 1 || eqb (t .compression) 2) ≡ true
+    → t .width ≡ w → t .height ≡ h → t .depth ≡ d → paletteOf file t ≡ colours → (eqb (t .compression) 1 || eqb (t .compression) 2) ≡ true
     → drop (t .offset) file ≡ stream d w h plane stride ++ rest
     → ((y x : ℕ) → cell y x ≡ index (getD plane (y * stride + x * 1 + 0) 0 % 2 ^ d))
-    → body file t ≡ shows (record { width = w; height = h; palette = paletteOf file t; rows = tab (λ y. tab (λ x. cell y x) w) h })
-unfolding body streamed picture
-body-read file t d w h plane stride rest cell deep some tall inside long wide high bits kind at shown =
-    let up : leb 2147483648 h ≡ false = lt-leb 2147483648 h tall in
-    let all : shownHeight t ≡ h = rw (high, up) in
+    → body file t ≡ shows (record { width = w; height = h; palette = colours; rows = tab (λ y. tab (λ x. cell y x) w) h })
+unfolding body streamed
+body-read file t d w h colours plane stride rest cell deep some tall inside long wide high bits palette kind at shown =
+    let all : shownHeight t ≡ h = height-shown t false h some tall high in
     let found : decode (t .depth) (t .width) (drop (t .offset) file) (t .width) (shownHeight t - 1) [] ≡ filled (allCells d w h plane stride)
-    = rw (high, up, bits, wide, at) (stream-read d w h plane stride rest deep some inside long) in
-    let rows : tab (λ y. tab (λ x. index (getD (allCells d w h plane stride) (storedAt t y * t .width + x) 0)) (t .width)) (shownHeight t)
-    ≡ tab (λ y. tab (λ x. cell y x) w) h
-    = rw (high, up, wide)
-    (tab-ext _ _ h (λ y l. tab-ext _ _ w (λ x k. ap index (cell-filled d w h plane stride inside long y x l k) ∙ sym (shown y x)))) in
+    = (λ z. decode (bits z) (wide z) (at z) (wide z) (all z - 1) []) ∙ stream-read d w h plane stride rest deep some inside long in
     rw kind (ap (streamed file t) found)
-    ∙ (λ z. shows (record { width = wide z; height = all z; palette = paletteOf file t; rows = rows z }))
+    ∙ picture-shown file t (λ s x. index (getD (allCells d w h plane stride) (s * t .width + x) 0)) cell false w h colours some tall wide high palette
+    (λ y x l k.
+    ap (λ (n : ℕ). index (getD (allCells d w h plane stride) ((h - 1 - y) * n + x) 0)) wide
+    ∙ ap index (cell-filled d w h plane stride inside long y x l k) ∙ sym (shown y x))
 
 -- ---- the sources that are coded
 
@@ -115,35 +110,6 @@ coded-source Indexed1 e = absurd (false≢true e)
 
 -- ---- when a stream is used
 
--- the tests that hold together where a stream is used
-planned-parts : (a b c d e : Bool) → ((a && b && c && not d) && e) ≡ true → (a ≡ true) × ((b ≡ true) × (d ≡ false))
-planned-parts true true true false e h = (refl, (refl, refl))
-planned-parts true true true true e h = absurd (false≢true h)
-planned-parts true true false d e h = absurd (false≢true h)
-planned-parts true false c d e h = absurd (false≢true h)
-planned-parts false b c d e h = absurd (false≢true h)
-
-plain-mode : (m : Mode) → isPlain m ≡ true → m ≡ plain
-plain-mode masked e = absurd (false≢true e)
-plain-mode calibrated e = absurd (false≢true e)
-plain-mode profiled e = absurd (false≢true e)
-plain-mode plain e = refl
-
--- the plain mode has no masks
-flag-off : (a b c : Bool) → cond a masked (cond b calibrated (cond c profiled plain)) ≡ plain → a ≡ false
-flag-off true b c e = cc
-flag-off false b c e = refl
-
-no-masks : (i : Input) → modeOf i ≡ plain → i .options .«has_bitfields» ≡ false
-unfolding modeOf
-no-masks i e = flag-off (i .options .«has_bitfields») (i .options .«has_calibrated_rgb»)
-    (profileMode (i .source .«has_linked_icc») (i .source .«has_icc») (i .options .«embed_icc»)) e
-
--- a stream is used in the plain mode only, of a coded source that is not top-down
-used-parts : (i : Input) → streamUsed maxFile i ≡ true → (isPlain (modeOf i) ≡ true) × ((coded (i .source .format) ≡ true) × (i .options .«top_down» ≡ false))
-unfolding streamUsed rlePlanned
-used-parts i e = planned-parts (isPlain (modeOf i)) (coded (i .source .format)) (i .options .rle) (i .options .«top_down») (ltb (length (streamOf i)) (budget maxFile i)) e
-
 -- the compression says that there is a stream
 kind-read : (i : Input) → streamUsed maxFile i ≡ true → compressionOf maxFile plain i ≡ cond (eqb (bitsPerPixel (i .source .format)) 8) 1 2
 unfolding compressionOf
@@ -167,18 +133,17 @@ pub stream-body : (i : Input) → Accepted i → streamUsed maxFile i ≡ true
     → body (fileOf maxFile i) (fieldsOf (fileOf maxFile i)) ≡ shows (expected i)
 unfolding expected
 stream-body i a used =
-    let parts = used-parts i used in
-    let mode : modeOf i ≡ plain = plain-mode (modeOf i) (parts .0) in
-    let c : Coded (i .source .format) = coded-source (i .source .format) (parts .1 .0) in
+    let parts = used-in maxFile i used in
+    let c : Coded (i .source .format) = coded-source (i .source .format) (parts .source) in
     let read = fields-read i a in
     let offset : fieldsOf (fileOf maxFile i) .offset ≡ headBytes i = ap (λ (t : Fields). t .offset) read in
     let wide : fieldsOf (fileOf maxFile i) .width ≡ i .source .width = ap (λ (t : Fields). t .width) read in
-    let high : fieldsOf (fileOf maxFile i) .height ≡ i .source .height = ap (λ (t : Fields). t .height) read ∙ rw (parts .1 .1) in
-    let bits : fieldsOf (fileOf maxFile i) .depth ≡ bitsPerPixel (i .source .format) = ap (λ (t : Fields). t .depth) read ∙ ap (λ (m : Mode). depthIn m i) mode in
+    let high : fieldsOf (fileOf maxFile i) .height ≡ i .source .height = ap (λ (t : Fields). t .height) read ∙ rw (parts .bottom-up) in
+    let bits : fieldsOf (fileOf maxFile i) .depth ≡ bitsPerPixel (i .source .format) = ap (λ (t : Fields). t .depth) read ∙ ap (λ (m : Mode). depthIn m i) (parts .mode) in
     let kind : fieldsOf (fileOf maxFile i) .compression ≡ cond (eqb (bitsPerPixel (i .source .format)) 8) 1 2
-    = ap (λ (t : Fields). t .compression) read ∙ ap (λ (m : Mode). compressionOf maxFile m i) mode ∙ kind-read i used in
+    = ap (λ (t : Fields). t .compression) read ∙ ap (λ (m : Mode). compressionOf maxFile m i) (parts .mode) ∙ kind-read i used in
     let at : drop (fieldsOf (fileOf maxFile i) .offset) (fileOf maxFile i) ≡ _ = ap (λ (n : ℕ). drop n (fileOf maxFile i)) offset ∙ stream-at i used in
-    body-read (fileOf maxFile i) (fieldsOf (fileOf maxFile i)) (bitsPerPixel (i .source .format)) (i .source .width) (i .source .height) (i .plane) (i .source .stride)
-    (tailOf (modeOf i) i) (cellShown i) (c .deep) (a .some-height) (a .tall) (rw (← c .one) (a .rows-inside)) (a .plane-long) wide high bits (rw kind (c .kind)) at
-    (index-shown i (no-masks i mode) c)
-    ∙ rw (palette-read i a (a .nine-endpoints) (a .three-gammas))
+    body-read (fileOf maxFile i) (fieldsOf (fileOf maxFile i)) (bitsPerPixel (i .source .format)) (i .source .width) (i .source .height) (paletteShown i) (i .plane) (i .source .stride)
+    (tailOf (modeOf i) i) (cellShown i) (c .deep) (a .some-height) (a .tall) (rw (← c .one) (a .rows-inside)) (a .plane-long) wide high bits
+    (palette-read i a) (rw kind (c .kind)) at
+    (index-shown i (masks-absent i plain (parts .mode) refl) c)

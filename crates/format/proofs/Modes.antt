@@ -1,0 +1,73 @@
+-- Which mode a call has.
+use mathlib.Core.Path.{_≡_, refl, sym, ap, _∙_}
+use mathlib.Core.Bool.{Bool, true, false, not, cond, false≢true, _&&_}
+use Prim.Native.Nat.{ℕ, _<_}
+use borrow.Author.Tests.{ltb-true}
+use lib.Dec.{ltb}
+use lib.ListN.{length}
+use Rattle.leaves.specs.Refusals.{profileMode}
+use Rattle.format.specs.File.{Mode, masked, calibrated, profiled, plain, modeOf, coded, isPlain, rlePlanned, streamOf, budget, streamUsed}
+use Rattle.format.specs.Input.{Input}
+
+-- ---- masks
+
+abbrev pub isMasked : Mode → Bool
+isMasked masked = true
+isMasked calibrated = false
+isMasked profiled = false
+isMasked plain = false
+
+-- masks are given exactly in mask mode
+pub given-mode : (i : Input) → i .options .«has_bitfields» ≡ isMasked (modeOf i)
+unfolding modeOf
+given-mode i =
+    go (i .options .«has_bitfields») (i .options .«has_calibrated_rgb») (profileMode (i .source .«has_linked_icc») (i .source .«has_icc») (i .options .«embed_icc»))
+  where
+    go : (a b c : Bool) → a ≡ isMasked (cond a masked (cond b calibrated (cond c profiled plain)))
+    go true b c = refl
+    go false true c = refl
+    go false false true = refl
+    go false false false = refl
+
+pub masks-given : (i : Input) → modeOf i ≡ masked → i .options .«has_bitfields» ≡ true
+masks-given i e = given-mode i ∙ ap isMasked e
+
+pub masks-absent : (i : Input) (m : Mode) → modeOf i ≡ m → isMasked m ≡ false → i .options .«has_bitfields» ≡ false
+masks-absent i m e other = given-mode i ∙ ap isMasked e ∙ other
+
+-- the other modes are not mask mode
+pub not-masked : (m : Mode) → isMasked m ≡ false → m ≡ masked → ⊥
+not-masked m other e = false≢true (sym other ∙ ap isMasked e)
+
+-- ---- streams
+
+plain-mode : (m : Mode) → isPlain m ≡ true → m ≡ plain
+plain-mode masked e = absurd (false≢true e)
+plain-mode calibrated e = absurd (false≢true e)
+plain-mode profiled e = absurd (false≢true e)
+plain-mode plain e = refl
+
+-- where a stream is used: in the plain mode only, of a coded source that is not top-down, and under the budget
+pub record UsedIn (limit : ℕ) (i : Input) : Type 0 where
+  pub mode : modeOf i ≡ plain
+  pub source : coded (i .source .format) ≡ true
+  pub bottom-up : i .options .«top_down» ≡ false
+  pub under : length (streamOf i) < budget limit i
+
+pub used-in : (limit : ℕ) (i : Input) → streamUsed limit i ≡ true → UsedIn limit i
+unfolding streamUsed rlePlanned
+used-in limit i e =
+    let all = parts (isPlain (modeOf i)) (coded (i .source .format)) (i .options .rle) (i .options .«top_down») (ltb (length (streamOf i)) (budget limit i)) e in
+    record {
+      mode = plain-mode (modeOf i) (all .0);
+      source = all .1 .0;
+      bottom-up = all .1 .1 .0;
+      under = ltb-true (length (streamOf i)) (budget limit i) (all .1 .1 .1);
+    }
+  where
+    parts : (a b c d e : Bool) → ((a && b && c && not d) && e) ≡ true → (a ≡ true) × ((b ≡ true) × ((d ≡ false) × (e ≡ true)))
+    parts true true true false e h = (refl, (refl, (refl, h)))
+    parts true true true true e h = absurd (false≢true h)
+    parts true true false d e h = absurd (false≢true h)
+    parts true false c d e h = absurd (false≢true h)
+    parts false b c d e h = absurd (false≢true h)
