@@ -1,0 +1,2 @@
+// The plan and the writing call.
+pub mod heads;
