@@ -1,12 +1,12 @@
 -- Laws of the file that hold of every accepted call.
 use mathlib.Core.Path.{_≡_, refl, sym, ap, _∙_, subst}
-use mathlib.Core.Bool.{Bool, true, false, false≢true, cond, _&&_}
+use mathlib.Core.Bool.{Bool, true, false, false≢true, cond}
 use mathlib.Core.List.{List, [], _∷_, _++_}
 use Prim.Native.Nat.{ℕ, zero, suc, _+_, _-_, _*_, _/_, _≤_, _<_, max}
 use native.Mathlib.Nat.{mod-lt}
 use native.Mathlib.Omega.{arith}
-use borrow.Author.Tests.{ltb-true, lt-ltb, leb-false}
-use lib.Dec.{eqb, ltb, leb}
+use borrow.Author.Tests.{lt-ltb, leb-false}
+use lib.Dec.{eqb, leb}
 use lib.ListN.{length, getD, replicate}
 use Rattle.leaves.specs.declared.image.BmpPixelFormat.{BmpPixelFormat}
 use Rattle.leaves.specs.declared.image.BmpPixelFormat.the-variants.{Rgba, Rgb24, Bgra, Bgr24, Rgb555, Rgb565, Pal8, Indexed4, Indexed2, Indexed1}
@@ -23,7 +23,7 @@ use Rattle.rows.specs.RleCodes.{width, block, bytes, codes, rowCodes}
 use Rattle.rows.specs.StoredRows.{padded, cell24, cell32, maskCell, storedRow, storedRows, PackOk, packBytes, rowOf, sourceRow}
 use Rattle.rows.specs.Stream.{endMark, streamRow, stream}
 use Rattle.format.specs.Accepted.{Accepted}
-use Rattle.format.specs.File.{Mode, masked, calibrated, profiled, plain, modeOf, tailOf, packIn, entriesOf, tableEntry, colourTable, isRgb565, maskTail, headRest, headBytes, rawBytes, coded, isPlain, rlePlanned, streamOf, maxFile, budget, streamUsed, storedRowsOf, pixels, fileSize, fileOf, plainSize, boundOf}
+use Rattle.format.specs.File.{Mode, masked, calibrated, profiled, plain, modeOf, tailOf, packIn, entriesOf, tableEntry, colourTable, isRgb565, maskTail, headRest, headBytes, rawBytes, coded, rlePlanned, streamOf, maxFile, budget, streamUsed, storedRowsOf, pixels, fileSize, fileOf, plainSize, boundOf}
 use Rattle.format.specs.Headers.{dwords, fileHeader, infoHeader, v4Fields, v5Fields}
 use Rattle.format.specs.Input.{Input}
 use Rattle.format.specs.Readers.{wordAt, dwordAt}
@@ -31,7 +31,7 @@ use Rattle.rows.proofs.PackLaws.{Depth, depth, digits-byte}
 use Rattle.rows.proofs.RleBlocks.{block-sound}
 use Rattle.format.proofs.FileSizes.{length-rows, pack-ok}
 use Rattle.format.proofs.HeadFields.{dword-bytes, firstPart, restPart, file-parts, length-file}
-use Rattle.format.proofs.Modes.{masks-given}
+use Rattle.format.proofs.Modes.{masks-given, planned-in, no-tail, used-in}
 use Rattle.format.proofs.SourceRows.{source-small}
 
 -- ---- the size
@@ -50,39 +50,16 @@ size-field i a =
 
 -- ---- the stream
 
-and-true : (a b : Bool) → (a && b) ≡ true → (a ≡ true) × (b ≡ true)
-and-true true b e = (refl, e)
-and-true false b e = absurd (false≢true e)
-
 -- a planned stream is used exactly if it is under the budget
 pub stream-used-under-budget : (i : Input) → rlePlanned i ≡ true
     → (streamUsed maxFile i ≡ true → length (streamOf i) < budget maxFile i) × (length (streamOf i) < budget maxFile i → streamUsed maxFile i ≡ true)
 unfolding streamUsed
 stream-used-under-budget i e = (
-  λ u. ltb-true (length (streamOf i)) (budget maxFile i) (and-true (rlePlanned i) (ltb (length (streamOf i)) (budget maxFile i)) u .1),
+  λ u. used-in maxFile i u .under,
   λ l. rw (e, lt-ltb (length (streamOf i)) (budget maxFile i) l),
 )
 
--- of four tests that hold together the first two hold
-first-two : (a b c d : Bool) → (a && b && c && d) ≡ true → (a ≡ true) × (b ≡ true)
-first-two true true c d e = (refl, refl)
-first-two true false c d e = absurd (false≢true e)
-first-two false b c d e = absurd (false≢true e)
-
--- RLE is planned for plain files of a coded source alone
-planned : (i : Input) → rlePlanned i ≡ true → (isPlain (modeOf i) ≡ true) × (coded (i .source .format) ≡ true)
-unfolding rlePlanned
-planned i e = first-two (isPlain (modeOf i)) (coded (i .source .format)) _ _ e
-
 -- ---- the bound
-
--- a plain file has no profile
-no-tail : (mode : Mode) (i : Input) → isPlain mode ≡ true → length (tailOf mode i) ≡ 0
-unfolding tailOf
-no-tail masked i e = absurd (false≢true e)
-no-tail calibrated i e = absurd (false≢true e)
-no-tail profiled i e = absurd (false≢true e)
-no-tail plain i e = refl
 
 -- no stream is used that is not planned
 unplanned : (i : Input) → rlePlanned i ≡ false → streamUsed maxFile i ≡ false
@@ -103,8 +80,8 @@ file-within-bound i a = go (rlePlanned i) (streamUsed maxFile i) (leb (plainSize
         ≤ cond p (headBytes i + max (budget maxFile i + 2 * i .source .width + 2) (cond f (rawBytes i) 0)) (plainSize i)
     go false true f e u l fits = absurd (false≢true (sym (unplanned i e) ∙ u))
     go false false f e u l fits = omega (arith, rows)
-    go true true f e u l fits = omega (arith, stream-used-under-budget i e .0 u, no-tail (modeOf i) i (planned i e .0))
-    go true false true e u l fits = omega (arith, rows, no-tail (modeOf i) i (planned i e .0))
+    go true true f e u l fits = omega (arith, stream-used-under-budget i e .0 u, no-tail i (planned-in i e))
+    go true false true e u l fits = omega (arith, rows, no-tail i (planned-in i e))
     go true false false e u l fits = omega (arith, rows, leb-false (plainSize i) maxFile l)
 
 -- ---- bytes
@@ -289,16 +266,12 @@ coded-depth Indexed4 e = depth 4 refl
 coded-depth Indexed2 e = absurd (false≢true e)
 coded-depth Indexed1 e = absurd (false≢true e)
 
-used-planned : (i : Input) → streamUsed maxFile i ≡ true → rlePlanned i ≡ true
-unfolding streamUsed
-used-planned i e = and-true (rlePlanned i) _ e .0
-
 pixel-bytes : (i : Input) → Accepted i → Bytes (pixels maxFile i)
 unfolding pixels streamOf
 pixel-bytes i a = go (streamUsed maxFile i) refl
   where
     go : (b : Bool) → streamUsed maxFile i ≡ b → Bytes (cond b (streamOf i) (storedRowsOf i))
-    go true e = stream-bytes (coded-depth (i .source .format) (planned i (used-planned i e) .1)) _ _ _ _
+    go true e = stream-bytes (coded-depth (i .source .format) (used-in maxFile i e .planned .source)) _ _ _ _
     go false e = rows-bytes i a
 
 tail-bytes : (mode : Mode) (i : Input) → Bytes (i .icc) → Bytes (i .linked) → Bytes (tailOf mode i)

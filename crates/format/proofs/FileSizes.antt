@@ -2,7 +2,7 @@
 use mathlib.Core.Path.{_≡_, refl, sym, ap, _∙_}
 use mathlib.Core.Logic.{_⊎_, inl, inr}
 use mathlib.Core.Bool.{Bool, true, false, false≢true, cond}
-use mathlib.Core.List.{List, []}
+use mathlib.Core.List.{List}
 use Prim.Native.Nat.{ℕ, _+_, _-_, _*_, _^_, _≤_, _<_, min}
 use native.Mathlib.Nat.{lt-of-lt-of-le, mul-comm}
 use native.Mathlib.Omega.{arith}
@@ -23,7 +23,7 @@ use Rattle.format.specs.Input.{Input}
 use Rattle.format.specs.Refusals.{maskSource}
 use Rattle.leaves.proofs.Runs.{ends-within, len-run, count-zero}
 use Rattle.rows.proofs.AllRows.{length-storedRows}
-use Rattle.format.proofs.Modes.{used-in}
+use Rattle.format.proofs.Modes.{no-tail, used-in}
 
 -- masks have cells of at most 32 bits
 pub masked-depth : (d : ℕ) → (d ≡ 16) ⊎ (d ≡ 32) → d ≤ 32
@@ -105,12 +105,12 @@ length-rows i a s =
 
 -- a stream under the budget keeps the file in the limit
 coded-fits : (limit : ℕ) (i : Input) → streamUsed limit i ≡ true → headBytes i + length (streamOf i) + length (tailOf (modeOf i) i) ≤ limit
-unfolding budget tailOf
+unfolding budget
 coded-fits limit i e =
     let used = used-in limit i e in
     let under : length (streamOf i) < min (rawBytes i) (limit + 1 - headBytes i) = used .under in
-    let alone : tailOf (modeOf i) i ≡ [] = ap (λ (m : Mode). tailOf m i) (used .mode) in
-    omega (arith, ap length alone)
+    let alone : length (tailOf (modeOf i) i) ≡ 0 = no-tail i (used .planned) in
+    omega (arith, alone)
 
 -- a file whose plain form fits, or whose stream is under the budget, fits
 pub file-fits : (limit : ℕ) (i : Input) → length (storedRowsOf i) ≡ rawBytes i → (streamUsed limit i ≡ false → plainSize i ≤ limit) → fileSize limit i ≤ limit

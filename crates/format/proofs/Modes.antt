@@ -6,7 +6,7 @@ use borrow.Author.Tests.{ltb-true}
 use lib.Dec.{ltb}
 use lib.ListN.{length}
 use Rattle.leaves.specs.Refusals.{profileMode}
-use Rattle.format.specs.File.{Mode, masked, calibrated, profiled, plain, modeOf, coded, isPlain, rlePlanned, streamOf, budget, streamUsed}
+use Rattle.format.specs.File.{Mode, masked, calibrated, profiled, plain, modeOf, tailOf, coded, isPlain, rlePlanned, streamOf, budget, streamUsed}
 use Rattle.format.specs.Input.{Input}
 
 -- ---- masks
@@ -47,27 +47,41 @@ plain-mode calibrated e = absurd (false≢true e)
 plain-mode profiled e = absurd (false≢true e)
 plain-mode plain e = refl
 
--- where a stream is used: in the plain mode only, of a coded source that is not top-down, and under the budget
-pub record UsedIn (limit : ℕ) (i : Input) : Type 0 where
+pub both : (a b : Bool) → (a && b) ≡ true → (a ≡ true) × (b ≡ true)
+both true b e = (refl, e)
+both false b e = absurd (false≢true e)
+
+-- where RLE is planned: in the plain mode only, of a coded source that is not top-down
+pub record PlannedIn (i : Input) : Type 0 where
   pub mode : modeOf i ≡ plain
   pub source : coded (i .source .format) ≡ true
   pub bottom-up : i .options .«top_down» ≡ false
+
+pub planned-in : (i : Input) → rlePlanned i ≡ true → PlannedIn i
+unfolding rlePlanned
+planned-in i e =
+    let all = parts (isPlain (modeOf i)) (coded (i .source .format)) (i .options .rle) (i .options .«top_down») e in
+    record { mode = plain-mode (modeOf i) (all .0); source = all .1 .0; bottom-up = all .1 .1 }
+  where
+    parts : (a b c d : Bool) → (a && b && c && not d) ≡ true → (a ≡ true) × ((b ≡ true) × (d ≡ false))
+    parts true true true false h = (refl, (refl, refl))
+    parts true true true true h = absurd (false≢true h)
+    parts true true false d h = absurd (false≢true h)
+    parts true false c d h = absurd (false≢true h)
+    parts false b c d h = absurd (false≢true h)
+
+-- a plain file has no profile
+pub no-tail : (i : Input) → PlannedIn i → length (tailOf (modeOf i) i) ≡ 0
+unfolding tailOf
+no-tail i p = ap (λ (m : Mode). length (tailOf m i)) (p .mode)
+
+-- where a stream is used: it is planned, and under the budget
+pub record UsedIn (limit : ℕ) (i : Input) : Type 0 where
+  pub planned : PlannedIn i
   pub under : length (streamOf i) < budget limit i
 
 pub used-in : (limit : ℕ) (i : Input) → streamUsed limit i ≡ true → UsedIn limit i
-unfolding streamUsed rlePlanned
+unfolding streamUsed
 used-in limit i e =
-    let all = parts (isPlain (modeOf i)) (coded (i .source .format)) (i .options .rle) (i .options .«top_down») (ltb (length (streamOf i)) (budget limit i)) e in
-    record {
-      mode = plain-mode (modeOf i) (all .0);
-      source = all .1 .0;
-      bottom-up = all .1 .1 .0;
-      under = ltb-true (length (streamOf i)) (budget limit i) (all .1 .1 .1);
-    }
-  where
-    parts : (a b c d e : Bool) → ((a && b && c && not d) && e) ≡ true → (a ≡ true) × ((b ≡ true) × ((d ≡ false) × (e ≡ true)))
-    parts true true true false e h = (refl, (refl, (refl, h)))
-    parts true true true true e h = absurd (false≢true h)
-    parts true true false d e h = absurd (false≢true h)
-    parts true false c d e h = absurd (false≢true h)
-    parts false b c d e h = absurd (false≢true h)
+    let two = both (rlePlanned i) (ltb (length (streamOf i)) (budget limit i)) e in
+    record { planned = planned-in i (two .0); under = ltb-true (length (streamOf i)) (budget limit i) (two .1) }

@@ -117,7 +117,7 @@ module _ (i : Input) (a : Accepted i) where
       (not-two (i .source .format) (a .samples e)) (a .masks e .depths)
   mode-opens calibrated e = rows-open (i .source .format)
   mode-opens profiled e = rows-open (i .source .format)
-  mode-opens plain e = plain-opens (i .source .format) (streamUsed maxFile i) (λ e. used-in maxFile i e .source)
+  mode-opens plain e = plain-opens (i .source .format) (streamUsed maxFile i) (λ e. used-in maxFile i e .planned .source)
 
   -- the readers take the compression and depth that were written
   file-opens : Opens (twoBits (i .source .format)) (alphaMasked i) (fieldsOf (fileOf maxFile i) .compression) (fieldsOf (fileOf maxFile i) .depth)

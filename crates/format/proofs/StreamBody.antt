@@ -134,16 +134,16 @@ pub stream-body : (i : Input) → Accepted i → streamUsed maxFile i ≡ true
 unfolding expected
 stream-body i a used =
     let parts = used-in maxFile i used in
-    let c : Coded (i .source .format) = coded-source (i .source .format) (parts .source) in
+    let c : Coded (i .source .format) = coded-source (i .source .format) (parts .planned .source) in
     let read = fields-read i a in
     let offset : fieldsOf (fileOf maxFile i) .offset ≡ headBytes i = ap (λ (t : Fields). t .offset) read in
     let wide : fieldsOf (fileOf maxFile i) .width ≡ i .source .width = ap (λ (t : Fields). t .width) read in
-    let high : fieldsOf (fileOf maxFile i) .height ≡ i .source .height = ap (λ (t : Fields). t .height) read ∙ rw (parts .bottom-up) in
-    let bits : fieldsOf (fileOf maxFile i) .depth ≡ bitsPerPixel (i .source .format) = ap (λ (t : Fields). t .depth) read ∙ ap (λ (m : Mode). depthIn m i) (parts .mode) in
+    let high : fieldsOf (fileOf maxFile i) .height ≡ i .source .height = ap (λ (t : Fields). t .height) read ∙ rw (parts .planned .bottom-up) in
+    let bits : fieldsOf (fileOf maxFile i) .depth ≡ bitsPerPixel (i .source .format) = ap (λ (t : Fields). t .depth) read ∙ ap (λ (m : Mode). depthIn m i) (parts .planned .mode) in
     let kind : fieldsOf (fileOf maxFile i) .compression ≡ cond (eqb (bitsPerPixel (i .source .format)) 8) 1 2
-    = ap (λ (t : Fields). t .compression) read ∙ ap (λ (m : Mode). compressionOf maxFile m i) (parts .mode) ∙ kind-read i used in
+    = ap (λ (t : Fields). t .compression) read ∙ ap (λ (m : Mode). compressionOf maxFile m i) (parts .planned .mode) ∙ kind-read i used in
     let at : drop (fieldsOf (fileOf maxFile i) .offset) (fileOf maxFile i) ≡ _ = ap (λ (n : ℕ). drop n (fileOf maxFile i)) offset ∙ stream-at i used in
     body-read (fileOf maxFile i) (fieldsOf (fileOf maxFile i)) (bitsPerPixel (i .source .format)) (i .source .width) (i .source .height) (paletteShown i) (i .plane) (i .source .stride)
     (tailOf (modeOf i) i) (cellShown i) (c .deep) (a .some-height) (a .tall) (rw (← c .one) (a .rows-inside)) (a .plane-long) wide high bits
     (palette-read i a) (rw kind (c .kind)) at
-    (index-shown i (masks-absent i plain (parts .mode) refl) c)
+    (index-shown i (masks-absent i plain (parts .planned .mode) refl) c)

@@ -1,6 +1,6 @@
 // The parts of the head, each as an array by value, and their writes (the Rust's header writers).
 ghost use mathlib.Core.Path.{_≡_};
-ghost use Prim.Native.Nat.{_+_, _*_, _≤_, _<_};
+ghost use Prim.Native.Nat.{_+_, _*_, _^_, _≤_, _<_};
 ghost use lib.ListN.{length, getD};
 ghost use Rattle.leaves.specs.Lists.{cat};
 ghost use Rattle.leaves.specs.Put.{put};
@@ -143,7 +143,7 @@ pub fn write_v5_fields(buf: &mut [u8], at: usize, intent: u32, profile_data: u32
 
 // DWORDs in a row.
 pub fn put_dwords(buf: &mut [u8], at: usize, src: &[u32])
-    requires { ⌜ length (now src) < 1099511627776 ⌝ }
+    requires { ⌜ length (now src) < 2 ^ 40 ⌝ }
     requires { ⌜ at + 4 * length (now src) ≤ length (now buf) ⌝ }
     ensures { λ _. ⌜ now (buf .exit) ≡ put (now (buf .entry)) at (dwords (now (src .entry))) ⌝ }
 {
