@@ -19,9 +19,9 @@ use Rattle.leaves.specs.Masks.{count, isOneRun, sharesBit, maskDepth, maskRows,
 use Rattle.leaves.specs.Refusals.{firstOf, profileMode, dimensionRows, paletteRows, modeRows, planeRows}
 use Rattle.leaves.specs.Formats.{bytesPerPixel, isIndexed}
 use Rattle.format.specs.Accepted.{MasksAccepted, Accepted}
-use Rattle.format.specs.File.{rlePlanned, streamOf, maxFile, budget, streamUsed, plainSize}
+use Rattle.format.specs.File.{rawBytes, rlePlanned, streamOf, maxFile, budget, streamUsed, storedRowsOf, plainSize}
 use Rattle.format.specs.Input.{Input}
-use Rattle.format.specs.Refusals.{maskSource, fileTooLarge, bufferTooShort, streamOverBudget, givenMasksRows, planRows, writeRows}
+use Rattle.format.specs.Refusals.{maskSource, fileTooLarge, bufferTooShort, streamOverBudget, givenMasksRows, checkRows, planRows, writeRows}
 use Rattle.leaves.proofs.Runs.{is-one-run}
 use Rattle.format.proofs.FileSizes.{length-rows, file-fits}
 use Rattle.format.proofs.Modes.{masks-given}
@@ -133,7 +133,7 @@ given-masks i e q =
     (masks-accepted (i .options .bitfields .bpp) (i .options .bitfields .masks) (both .0), row-parts (maskSource (i .source .format)) _ _ (both .1) .0)
 
 -- 14 and 16 passed: the file fits
-size-fits : (i : Input) → fileTooLarge maxFile i ≡ false → streamOverBudget maxFile i ≡ false → streamUsed maxFile i ≡ false → plainSize i ≤ maxFile
+pub size-fits : (i : Input) → fileTooLarge maxFile i ≡ false → streamOverBudget maxFile i ≡ false → streamUsed maxFile i ≡ false → plainSize i ≤ maxFile
 unfolding fileTooLarge streamOverBudget streamUsed
 size-fits i large over used = go (rlePlanned i) (ltb (length (streamOf i)) (budget maxFile i)) (ltb maxFile (plainSize i)) refl large over used
   where
@@ -143,43 +143,78 @@ size-fits i large over used = go (rlePlanned i) (ltb (length (streamOf i)) (budg
     go true true true q a b c = absurd (false≢true (sym c))
     go true false true q a b c = absurd (false≢true (sym b))
 
--- a call that no row of the table refuses
-pub accepted : (i : Input) (room offset : ℕ) → ((k : ℕ) → getD (i .plane) k 0 < 256) → ((k : ℕ) → getD (i .palette) k 0 < 256)
-    → length (i .options .«calibrated_rgb» .endpoints) ≡ 9 → length (i .options .«calibrated_rgb» .gamma) ≡ 3
-    → firstOf (writeRows maxFile i room offset) ≡ Passed → Accepted i
-unfolding writeRows planRows
-accepted i room offset plane-bytes palette-bytes nine three e =
+-- what is known where none of 1 to 13 applies
+pub record Checked (i : Input) : Type 0 where
+  pub some-width : 0 < i .source .width
+  pub wide : i .source .width < 2147483648
+  pub some-height : 0 < i .source .height
+  pub tall : i .source .height < 2147483648
+  pub rows-inside : i .source .width * bytesPerPixel (i .source .format) ≤ i .source .stride
+  pub plane-long : i .source .stride * i .source .height ≤ length (i .plane)
+  pub masks : i .options .«has_bitfields» ≡ true → MasksAccepted (i .options .bitfields .bpp) (i .options .bitfields .masks)
+  pub samples : i .options .«has_bitfields» ≡ true → maskSource (i .source .format) ≡ false
+
+pub checked : (i : Input) → firstOf (checkRows i) ≡ Passed → Checked i
+unfolding checkRows
+checked i e =
     let w = i .source .width in
     let h = i .source .height in
     let dims = dimensionRows w h in
     let pals = paletteRows (isIndexed (i .source .format)) (i .source .«has_palette») (length (i .palette)) in
     let modes = modeRows (i .options .«has_bitfields») (i .options .«has_calibrated_rgb») (profileMode (i .source .«has_linked_icc») (i .source .«has_icc») (i .options .«embed_icc»)) in
     let planes = planeRows w h (i .source .stride) (bytesPerPixel (i .source .format)) (length (i .plane)) in
-    let last : List (Bool × Refusal) = (fileTooLarge maxFile i, FileTooLarge) ∷ [] in
-    let writing : List (Bool × Refusal) = (bufferTooShort maxFile i room offset, BufferTooShort) ∷ (streamOverBudget maxFile i, StreamOverBudget) ∷ [] in
-    let all = first-parts (dims ++ pals ++ modes ++ givenMasksRows i ++ planes ++ last) writing e in
-    let a14 = first-parts (dims ++ pals ++ modes ++ givenMasksRows i ++ planes) last (all .0) in
-    let a12 = first-parts (dims ++ pals ++ modes ++ givenMasksRows i) planes (a14 .0) in
+    let a12 = first-parts (dims ++ pals ++ modes ++ givenMasksRows i) planes e in
     let a6 = first-parts (dims ++ pals ++ modes) (givenMasksRows i) (a12 .0) in
     let a5 = first-parts (dims ++ pals) modes (a6 .0) in
     let a3 = first-parts dims pals (a5 .0) in
     let size = dimensions w h (a3 .0) in
     let long = plane w h (i .source .stride) (bytesPerPixel (i .source .format)) (length (i .plane)) (a12 .1) in
     let mask = given-masks i (a6 .1) in
-    let large = row-parts (fileTooLarge maxFile i) FileTooLarge (firstOf []) (a14 .1) .0 in
-    let over = row-parts (streamOverBudget maxFile i) StreamOverBudget (firstOf []) (row-parts (bufferTooShort maxFile i room offset) BufferTooShort _ (all .1) .1) .0 in
     record {
       some-width = size .0 .0;
       wide = size .0 .1;
       some-height = size .1 .0;
       tall = size .1 .1;
-      plane-bytes = plane-bytes;
-      palette-bytes = palette-bytes;
-      nine-endpoints = nine;
-      three-gammas = three;
       rows-inside = long .1;
       plane-long = long .0;
       masks = λ q. mask q .0;
       samples = λ q. mask q .1;
-      fits = file-fits maxFile i (length-rows i (λ q. mask (masks-given i q) .0) (λ q. mask (masks-given i q) .1)) (size-fits i large over);
+    }
+
+-- the stored rows of a call that 1 to 13 pass have the raw bytes
+pub rows-long : (i : Input) → Checked i → length (storedRowsOf i) ≡ rawBytes i
+rows-long i k = length-rows i (λ q. k .masks (masks-given i q)) (λ q. k .samples (masks-given i q))
+
+-- 1 to 14 passed
+pub plan-passed : (i : Input) → firstOf (planRows maxFile i) ≡ Passed → Checked i × (fileTooLarge maxFile i ≡ false)
+unfolding planRows
+plan-passed i e =
+    let both = first-parts (checkRows i) ((fileTooLarge maxFile i, FileTooLarge) ∷ []) e in
+    (checked i (both .0), row-parts (fileTooLarge maxFile i) FileTooLarge (firstOf []) (both .1) .0)
+
+-- a call that no row of the table refuses
+pub accepted : (i : Input) (room offset : ℕ) → ((k : ℕ) → getD (i .plane) k 0 < 256) → ((k : ℕ) → getD (i .palette) k 0 < 256)
+    → length (i .options .«calibrated_rgb» .endpoints) ≡ 9 → length (i .options .«calibrated_rgb» .gamma) ≡ 3
+    → firstOf (writeRows maxFile i room offset) ≡ Passed → Accepted i
+unfolding writeRows
+accepted i room offset plane-bytes palette-bytes nine three e =
+    let writing : List (Bool × Refusal) = (bufferTooShort maxFile i room offset, BufferTooShort) ∷ (streamOverBudget maxFile i, StreamOverBudget) ∷ [] in
+    let all = first-parts (planRows maxFile i) writing e in
+    let plan = plan-passed i (all .0) in
+    let k = plan .0 in
+    let over = row-parts (streamOverBudget maxFile i) StreamOverBudget (firstOf []) (row-parts (bufferTooShort maxFile i room offset) BufferTooShort _ (all .1) .1) .0 in
+    record {
+      some-width = k .some-width;
+      wide = k .wide;
+      some-height = k .some-height;
+      tall = k .tall;
+      plane-bytes = plane-bytes;
+      palette-bytes = palette-bytes;
+      nine-endpoints = nine;
+      three-gammas = three;
+      rows-inside = k .rows-inside;
+      plane-long = k .plane-long;
+      masks = k .masks;
+      samples = k .samples;
+      fits = file-fits maxFile i (rows-long i k) (size-fits i (plan .1) over);
     }

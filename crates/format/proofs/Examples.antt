@@ -19,7 +19,7 @@ use Rattle.rows.specs.Stream.{streamRow, stream}
 use Rattle.format.specs.Headers.{fileHeader, infoHeader}
 use Rattle.format.specs.Input.{Input}
 use Rattle.format.specs.File.{modeOf, tailOf, entriesOf, tableEntry, colourTable, headRest, headBytes, rawBytes, rlePlanned, streamOf, maxFile, budget, streamUsed, pixels, compressionOf, imageSize, headOf, fileSize, fileOf, plainSize, boundOf, formatOf}
-use Rattle.format.specs.Refusals.{fileTooLarge, givenMasksRows, planRows}
+use Rattle.format.specs.Refusals.{fileTooLarge, givenMasksRows, checkRows, planRows}
 
 -- Pal8 of one row, all 7, with an empty minimal palette
 unfoldable pub sevens : ℕ → ℕ → Input
@@ -69,5 +69,5 @@ four-wide = (refl, refl, refl, refl)
 
 -- "Plane one byte short in its last row's padding: 12", here of a row of no padding
 pub one-byte-short : firstOf (planRows maxFile (sevens 4 3)) ≡ Refused PlaneTooShort
-unfolding sevens planRows dimensionRows paletteRows modeRows givenMasksRows planeRows fileTooLarge rlePlanned modeOf
+unfolding sevens planRows checkRows dimensionRows paletteRows modeRows givenMasksRows planeRows fileTooLarge rlePlanned modeOf
 one-byte-short = refl

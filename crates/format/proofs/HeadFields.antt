@@ -124,7 +124,7 @@ abbrev pub firstPart : Input → ℕ → List ℕ
 firstPart i n =
     fileHeader n (headBytes i)
     ++ infoHeader (headerSize (modeOf i) (i .source .format)) (i .source .width) (storedHeight i) (depthIn (modeOf i) i) (compressionOf maxFile (modeOf i) i)
-    (imageSize i) pelsPerMeter pelsPerMeter (clrUsed (depthIn (modeOf i) i) (entriesOf i))
+    (imageSize i (rawBytes i)) pelsPerMeter pelsPerMeter (clrUsed (depthIn (modeOf i) i) (entriesOf i))
 
 -- what stands between them and the table
 abbrev pub restPart : Input → List ℕ
@@ -135,10 +135,17 @@ pub file-parts : (i : Input)
 unfolding fileOf headOf
 file-parts i = simp append-assoc
 
+pub length-fileHeader : (size off : ℕ) → length (fileHeader size off) ≡ 14
+unfolding fileHeader le32 le16
+length-fileHeader size off = refl
+
+pub length-infoHeader : (hs w h d c im x y n : ℕ) → length (infoHeader hs w h d c im x y n) ≡ 40
+unfolding infoHeader le32 le16
+length-infoHeader hs w h d c im x y n = refl
+
 -- the two headers have 54 bytes
 pub first-length : (i : Input) (n : ℕ) → length (firstPart i n) ≡ 54
-unfolding fileHeader infoHeader le32 le16
-first-length i n = refl
+first-length i n = simp (length-append, length-fileHeader, length-infoHeader)
 
 -- the bytes after the first 54 are as many wherever the profile begins
 pub rest-length : (m : Mode) (i : Input) (at : ℕ) → length (headRest m i at) ≡ length (headRest m i 0)
@@ -154,27 +161,28 @@ unfolding colourTable tableEntry
 table-length i = length-cat (tableEntry (i .palette)) 4 (entriesOf i) (λ k l. refl) ∙ omega arith
 
 -- the head's bytes by its parts
-head-parts : (i : Input) (n : ℕ) → length (headOf maxFile i n) ≡ 54 + length (headRest (modeOf i) i 0) + 4 * entriesOf i
+head-parts : (i : Input) (c raw n : ℕ) → length (headOf i c raw n) ≡ 54 + length (headRest (modeOf i) i 0) + 4 * entriesOf i
 unfolding headOf
-head-parts i n =
-    simp (length-append, rest-length (modeOf i) i (headBytes i - 14 + rawBytes i), table-length i) (omega (arith, simp length-append at (first-length i n)))
+head-parts i c raw n =
+    simp (length-append, rest-length (modeOf i) i (headBytes i - 14 + raw), table-length i, length-fileHeader, length-infoHeader)
 
 -- the head has as many bytes as the offset says
-pub length-head : (i : Input) (n : ℕ) → length (headOf maxFile i n) ≡ headBytes i
+pub length-head : (i : Input) (c raw n : ℕ) → length (headOf i c raw n) ≡ headBytes i
 unfolding headBytes
-length-head i n = head-parts i n ∙ omega arith
+length-head i c raw n = head-parts i c raw n ∙ omega arith
 
 -- the pixels stand where the head ends
 pub pixels-at : (i : Input) → drop (headBytes i) (fileOf maxFile i) ≡ pixels maxFile i ++ tailOf (modeOf i) i
 unfolding fileOf
 pixels-at i =
     rw append-assoc
-    (drop-at (headOf maxFile i (fileSize maxFile i)) (pixels maxFile i ++ tailOf (modeOf i) i) (headBytes i) (length-head i (fileSize maxFile i)))
+    (drop-at (headOf i (compressionOf maxFile (modeOf i) i) (rawBytes i) (fileSize maxFile i)) (pixels maxFile i ++ tailOf (modeOf i) i) (headBytes i)
+    (length-head i (compressionOf maxFile (modeOf i) i) (rawBytes i) (fileSize maxFile i)))
 
 -- the file is as long as its size says
 pub length-file : (i : Input) → length (fileOf maxFile i) ≡ fileSize maxFile i
 unfolding fileOf fileSize
-length-file i = simp (length-append, length-head i (fileSize maxFile i)) (omega arith)
+length-file i = simp (length-append, length-head i (compressionOf maxFile (modeOf i) i) (rawBytes i) (fileSize maxFile i)) (omega arith)
 
 -- ---- the file's fields
 
@@ -196,7 +204,7 @@ pub fields-read : (i : Input) → Accepted i → fieldsOf (fileOf maxFile i) ≡
 fields-read i a =
     rw (file-parts i)
     (first-fields (fileSize maxFile i) (headBytes i) (headerSize (modeOf i) (i .source .format)) (i .source .width) (storedHeight i) (depthIn (modeOf i) i)
-    (compressionOf maxFile (modeOf i) i) (imageSize i) pelsPerMeter pelsPerMeter (clrUsed (depthIn (modeOf i) i) (entriesOf i))
+    (compressionOf maxFile (modeOf i) i) (imageSize i (rawBytes i)) pelsPerMeter pelsPerMeter (clrUsed (depthIn (modeOf i) i) (entriesOf i))
     (restPart i ++ (colourTable i ++ (pixels maxFile i ++ tailOf (modeOf i) i))) (omega (arith, head-le i a))
     (omega (arith, header-le (modeOf i) (i .source .format))) (omega (arith, a .wide)) (height-lt (i .options .«top_down») (i .source .height) (a .some-height) (a .tall))
     (omega (arith, depth-le (modeOf i) i (λ e. a .masks (masks-given i e) .depths))) (omega (arith, compression-le (modeOf i) i))

@@ -60,25 +60,25 @@ longs-length : (i : Input) → length (longs (i .options .«calibrated_rgb» .en
 unfolding longs
 longs-length i = length-map (i .options .«calibrated_rgb» .endpoints) (ofZ w32)
 
-module _ (i : Input) (a : Accepted i) where
-  -- without masks, the header ends where the table begins
-  pub header-fills : (m : Mode) → (m ≡ masked → ⊥) → 54 + length (headRest m i 0) ≡ 14 + headerSize m (i .source .format)
-  unfolding headRest v5Fields le32
-  header-fills masked never = absurd (never refl)
-  header-fills calibrated never =
-      rw (v4-length (longMasks (i .source .format)) 0 (longs (i .options .«calibrated_rgb» .endpoints)) (i .options .«calibrated_rgb» .gamma)
-      (four-masks (i .source .format)) (longs-length i ∙ a .nine-endpoints) (a .three-gammas))
-  header-fills profiled never =
-      simp (
-        length-append,
-        v4-length (longMasks (i .source .format)) (cond (i .source .«has_linked_icc») 0x4C494E4B 0x4D424544) (replicate 9 0) (replicate 3 0)
-            (four-masks (i .source .format)) refl refl,
-      )
-  header-fills plain never = go (isRgb565 (i .source .format))
-    where
-      go : (b : Bool) → 54 + length (cond b (v4Fields (longMasks (i .source .format)) 0x73524742 (replicate 9 0) (replicate 3 0)) []) ≡ 14 + cond b 108 40
-      go true = rw (v4-length (longMasks (i .source .format)) 0x73524742 (replicate 9 0) (replicate 3 0) (four-masks (i .source .format)) refl refl)
-      go false = refl
+-- without masks, the header ends where the table begins
+pub header-fills : (i : Input) → length (i .options .«calibrated_rgb» .endpoints) ≡ 9 → length (i .options .«calibrated_rgb» .gamma) ≡ 3 → (m : Mode) → (m ≡ masked → ⊥)
+    → 54 + length (headRest m i 0) ≡ 14 + headerSize m (i .source .format)
+unfolding headRest v5Fields le32
+header-fills i nine three masked never = absurd (never refl)
+header-fills i nine three calibrated never =
+    rw (v4-length (longMasks (i .source .format)) 0 (longs (i .options .«calibrated_rgb» .endpoints)) (i .options .«calibrated_rgb» .gamma)
+    (four-masks (i .source .format)) (longs-length i ∙ nine) three)
+header-fills i nine three profiled never =
+    simp (
+      length-append,
+      v4-length (longMasks (i .source .format)) (cond (i .source .«has_linked_icc») 0x4C494E4B 0x4D424544) (replicate 9 0) (replicate 3 0)
+          (four-masks (i .source .format)) refl refl,
+    )
+header-fills i nine three plain never = go (isRgb565 (i .source .format))
+  where
+    go : (b : Bool) → 54 + length (cond b (v4Fields (longMasks (i .source .format)) 0x73524742 (replicate 9 0) (replicate 3 0)) []) ≡ 14 + cond b 108 40
+    go true = rw (v4-length (longMasks (i .source .format)) 0x73524742 (replicate 9 0) (replicate 3 0) (four-masks (i .source .format)) refl refl)
+    go false = refl
 
 -- ---- the table's count
 
@@ -205,7 +205,7 @@ module _ (i : Input) (a : Accepted i) where
       → getD (fileOf maxFile i) q 0 ≡ getD (tableEntry (i .palette) k) j 0
   unfolding colourTable tableEntry
   table-byte k j q h l e =
-      let place : q ≡ 54 + (length (headRest (modeOf i) i 0) + (k * 4 + j)) = omega (arith, header-fills i a (modeOf i) (entry-plain k h)) in
+      let place : q ≡ 54 + (length (headRest (modeOf i) i 0) + (k * 4 + j)) = omega (arith, header-fills i (a .nine-endpoints) (a .three-gammas) (modeOf i) (entry-plain k h)) in
       rw (file-parts i, place)
       (past (firstPart i (fileSize maxFile i)) (restPart i ++ (colourTable i ++ (pixels maxFile i ++ tailOf (modeOf i) i))) 54
       (length (headRest (modeOf i) i 0) + (k * 4 + j)) (first-length i (fileSize maxFile i))

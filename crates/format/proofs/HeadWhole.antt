@@ -51,19 +51,19 @@ module _ (i : Input) (a : Accepted i) where
       masked-end (hasAlphaMask (i .options .bitfields .masks)) (getD (i .options .bitfields .masks) 0 0) (getD (i .options .bitfields .masks) 1 0)
       (getD (i .options .bitfields .masks) 2 0) (getD (i .options .bitfields .masks) 3 0)
   masks-inside calibrated =
-      omega (arith, header-fills i a calibrated (not-masked calibrated refl), end-le (eqb (cond (isRgb565 (i .source .format)) 3 0) 6) (eqb (cond (isRgb565 (i .source .format)) 3 0) 3))
+      omega (arith, header-fills i (a .nine-endpoints) (a .three-gammas) calibrated (not-masked calibrated refl), end-le (eqb (cond (isRgb565 (i .source .format)) 3 0) 6) (eqb (cond (isRgb565 (i .source .format)) 3 0) 3))
   masks-inside profiled =
-      omega (arith, header-fills i a profiled (not-masked profiled refl), end-le (eqb (cond (isRgb565 (i .source .format)) 3 0) 6) (eqb (cond (isRgb565 (i .source .format)) 3 0) 3))
+      omega (arith, header-fills i (a .nine-endpoints) (a .three-gammas) profiled (not-masked profiled refl), end-le (eqb (cond (isRgb565 (i .source .format)) 3 0) 6) (eqb (cond (isRgb565 (i .source .format)) 3 0) 3))
   masks-inside plain =
-      rw (header-fills i a plain (not-masked plain refl))
+      rw (header-fills i (a .nine-endpoints) (a .three-gammas) plain (not-masked plain refl))
       (plain-end (streamUsed maxFile i) (eqb (bitsPerPixel (i .source .format)) 8) (isRgb565 (i .source .format)))
 
   -- the header stands in the head
   header-inside : (m : Mode) → 14 + headerSize m (i .source .format) ≤ 54 + length (headRest m i 0)
   header-inside masked = omega arith
-  header-inside calibrated = omega (arith, header-fills i a calibrated (not-masked calibrated refl))
-  header-inside profiled = omega (arith, header-fills i a profiled (not-masked profiled refl))
-  header-inside plain = omega (arith, header-fills i a plain (not-masked plain refl))
+  header-inside calibrated = omega (arith, header-fills i (a .nine-endpoints) (a .three-gammas) calibrated (not-masked calibrated refl))
+  header-inside profiled = omega (arith, header-fills i (a .nine-endpoints) (a .three-gammas) profiled (not-masked profiled refl))
+  header-inside plain = omega (arith, header-fills i (a .nine-endpoints) (a .three-gammas) plain (not-masked plain refl))
 
   -- the head is in the file
   head-inside : 54 + length (headRest (modeOf i) i 0) + 4 * entriesOf i ≤ length (fileOf maxFile i)

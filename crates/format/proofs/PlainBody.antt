@@ -59,7 +59,7 @@ plain-bytes Indexed4 = refl
 plain-bytes Indexed2 = refl
 plain-bytes Indexed1 = refl
 
-pack-bytes : (m : Mode) (i : Input) → packBytes (packIn m i) ≡ bytesPerPixel (i .source .format)
+pub pack-bytes : (m : Mode) (i : Input) → packBytes (packIn m i) ≡ bytesPerPixel (i .source .format)
 unfolding packIn
 pack-bytes masked i = refl
 pack-bytes calibrated i = plain-bytes (i .source .format)

@@ -228,27 +228,27 @@ compressionOf limit plain i =
     cond (streamUsed limit i) (cond (eqb (bitsPerPixel (i .source .format)) 8) 1 2) (cond (isRgb565 (i .source .format)) 3 0)
 
 -- "Image size is 0 in every 40-byte header and the raw bytes in the others"
-unfoldable pub imageSize : Input → ℕ
-imageSize i = cond (eqb (headerSize (modeOf i) (i .source .format)) 40) 0 (rawBytes i)
+unfoldable pub imageSize : Input → ℕ → ℕ
+imageSize i pixelBytes = cond (eqb (headerSize (modeOf i) (i .source .format)) 40) 0 pixelBytes
 
 -- "Resolution is 2835 in each direction"
 abbrev pub pelsPerMeter : ℕ
 pelsPerMeter = 2835
 
--- all bytes before the pixels, of a file of this size
-unfoldable pub headOf : ℕ → Input → ℕ → List ℕ
-headOf limit i fileSize =
+-- all bytes before the pixels, of a file with this compression, so many raw bytes and this size
+unfoldable pub headOf : Input → ℕ → ℕ → ℕ → List ℕ
+headOf i compression pixelBytes fileSize =
     fileHeader fileSize (headBytes i)
-    ++ infoHeader (headerSize (modeOf i) (i .source .format)) (i .source .width) (storedHeight i) (depthIn (modeOf i) i) (compressionOf limit (modeOf i) i)
-    (imageSize i) pelsPerMeter pelsPerMeter (clrUsed (depthIn (modeOf i) i) (entriesOf i))
-    ++ headRest (modeOf i) i (headBytes i - 14 + rawBytes i)
+    ++ infoHeader (headerSize (modeOf i) (i .source .format)) (i .source .width) (storedHeight i) (depthIn (modeOf i) i) compression
+    (imageSize i pixelBytes) pelsPerMeter pelsPerMeter (clrUsed (depthIn (modeOf i) i) (entriesOf i))
+    ++ headRest (modeOf i) i (headBytes i - 14 + pixelBytes)
     ++ colourTable i
 
 unfoldable pub fileSize : ℕ → Input → ℕ
 fileSize limit i = headBytes i + length (pixels limit i) + length (tailOf (modeOf i) i)
 
 unfoldable pub fileOf : ℕ → Input → List ℕ
-fileOf limit i = headOf limit i (fileSize limit i) ++ pixels limit i ++ tailOf (modeOf i) i
+fileOf limit i = headOf i (compressionOf limit (modeOf i) i) (rawBytes i) (fileSize limit i) ++ pixels limit i ++ tailOf (modeOf i) i
 
 -- ---- bound and format
 

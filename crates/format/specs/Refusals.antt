@@ -45,15 +45,18 @@ unfoldable pub givenMasksRows : Input → List (Bool × Refusal)
 givenMasksRows i =
     cond (i .options .«has_bitfields») (bitfieldsRows (i .options .bitfields .bpp) (i .options .bitfields .masks) ++ ((maskSource (i .source .format), MaskSource) ∷ [])) []
 
--- 1 to 14, which the size query gives too
-unfoldable pub planRows : ℕ → Input → List (Bool × Refusal)
-planRows limit i =
+-- 1 to 13: picture, modes, masks and plane
+unfoldable pub checkRows : Input → List (Bool × Refusal)
+checkRows i =
     dimensionRows (i .source .width) (i .source .height)
     ++ paletteRows (isIndexed (i .source .format)) (i .source .«has_palette») (length (i .palette))
     ++ modeRows (i .options .«has_bitfields») (i .options .«has_calibrated_rgb») (profileMode (i .source .«has_linked_icc») (i .source .«has_icc») (i .options .«embed_icc»))
     ++ givenMasksRows i
     ++ planeRows (i .source .width) (i .source .height) (i .source .stride) (bytesPerPixel (i .source .format)) (length (i .plane))
-    ++ ((fileTooLarge limit i, FileTooLarge) ∷ [])
+
+-- 1 to 14, which the size query gives too
+unfoldable pub planRows : ℕ → Input → List (Bool × Refusal)
+planRows limit i = checkRows i ++ ((fileTooLarge limit i, FileTooLarge) ∷ [])
 
 -- 1 to 16, of a buffer of `room` bytes
 unfoldable pub writeRows : ℕ → Input → ℕ → ℕ → List (Bool × Refusal)

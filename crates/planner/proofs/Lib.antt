@@ -1,1 +1,7 @@
+pub mod CallLaws
+pub mod FileWrites
 pub mod HeadLaws
+pub mod HeadWrites
+pub mod Longs
+pub mod ModeLaws
+pub mod PlanLaws

@@ -2,10 +2,12 @@
 ghost use mathlib.Core.Path.{_≡_};
 ghost use Prim.Native.Nat.{_+_, _*_, _^_, _≤_, _<_};
 ghost use lib.ListN.{length, getD};
+ghost use mir.Syntax.{w32};
+ghost use mir.Val.{ofZ};
 ghost use Rattle.leaves.specs.Lists.{cat};
 ghost use Rattle.leaves.specs.Put.{put};
 ghost use Rattle.format.specs.File.{maskTail, tableEntry};
-ghost use Rattle.format.specs.Headers.{dwords, fileHeader, infoHeader, v4Fields, v5Fields};
+ghost use Rattle.format.specs.Headers.{dwords, fileHeader, infoHeader, v4Fields, v5Fields, longs};
 use leaves::buffer::put_slice;
 use leaves::buffer::put_u32;
 
@@ -219,4 +221,32 @@ pub fn write_masks(buf: &mut [u8], at: usize, masks: [u32; 4])
     if alpha != 0 {
         put_u32(buf, at + 12, alpha);
     }
+}
+
+// A LONG as its 32 bits.
+fn long_bits(v: i32) -> u32
+    ensures { λ r. ⌜ r ≡ ofZ w32 v ⌝ }
+{
+    if v < 0 {
+        let below = (-(v + 1)) as u32;
+        return 0xFFFF_FFFF - below;
+    }
+    v as u32
+}
+
+// Nine endpoints as their 32 bits.
+pub fn endpoint_bits(endpoints: [i32; 9]) -> [u32; 9]
+    ensures { λ r. ⌜ r ≡ longs endpoints ⌝ }
+{
+    [
+        long_bits(endpoints[0]),
+        long_bits(endpoints[1]),
+        long_bits(endpoints[2]),
+        long_bits(endpoints[3]),
+        long_bits(endpoints[4]),
+        long_bits(endpoints[5]),
+        long_bits(endpoints[6]),
+        long_bits(endpoints[7]),
+        long_bits(endpoints[8]),
+    ]
 }

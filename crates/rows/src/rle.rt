@@ -4,11 +4,15 @@ ghost use mathlib.Core.Bool.{cond};
 ghost use mathlib.Core.List.{[], _∷_, _++_};
 ghost use Prim.Native.Nat.{_+_, _*_, _<_, _≤_, _^_};
 ghost use lib.ListN.{length, getD, take, drop};
+ghost use Rattle.leaves.specs.declared.encoder.EncodedBmpFormat.the-variants as written;
 ghost use Rattle.leaves.specs.Put.{put};
 ghost use Rattle.rows.specs.Packing.{packedByte, packed};
 ghost use Rattle.rows.specs.RleCodes.{isRle4, depthOf, cells, runLength, gatherLength, blockAt, width, dataBytes, bytes, size, rowCodes};
 ghost use Rattle.rows.specs.Stream.{stream, counted};
 use crate::pack::pack_bytes;
+use leaves::encoder::EncodedBmpFormat;
+use leaves::types::BI_RLE4;
+use leaves::types::BI_RLE8;
 
 // Which of the two codings: `four` of the functions below is true for Rle4.
 pub enum Rle {
@@ -23,6 +27,26 @@ impl Rle {
         match self {
             Rle::Rle8 => false,
             Rle::Rle4 => true,
+        }
+    }
+
+    // biCompression of a file with a stream.
+    pub fn compression(self) -> u32
+        ensures { λ r. ⌜ r ≡ cond (isRle4 self) 2 1 ⌝ }
+    {
+        match self {
+            Rle::Rle8 => BI_RLE8,
+            Rle::Rle4 => BI_RLE4,
+        }
+    }
+
+    // What such a file was written as.
+    pub fn format(self) -> EncodedBmpFormat
+        ensures { λ r. ⌜ r ≡ cond (isRle4 self) written.Rle4 written.Rle8 ⌝ }
+    {
+        match self {
+            Rle::Rle8 => EncodedBmpFormat::Rle8,
+            Rle::Rle4 => EncodedBmpFormat::Rle4,
         }
     }
 }

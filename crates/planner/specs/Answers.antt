@@ -1,0 +1,95 @@
+-- What a call answers, as document 01's numbers and values, and what the call promises.
+use Prim.Native.Nat.{ℕ}
+use mathlib.Core.Path.{_≡_}
+use mathlib.Core.List.{List, [], _∷_}
+use lib.ListN.{length, take, drop}
+use Rattle.leaves.specs.declared.encoder.EncodedBmpFormat.{EncodedBmpFormat}
+use Rattle.leaves.specs.declared.error.Check.{Check}
+use Rattle.leaves.specs.declared.error.Check.the-variants as check
+use Rattle.leaves.specs.declared.error.Refusal.the-variants.{FileTooLarge, StreamOverBudget}
+use Rattle.leaves.specs.Put.{put}
+use Rattle.leaves.specs.Refusals.{numberOf, checkNumber, firstOf, firstNumber}
+use Rattle.format.specs.Demand.{Demand3}
+use Rattle.format.specs.File.{modeOf, maxFile, fileSize, fileOf, boundOf, formatOf}
+use Rattle.format.specs.Input.{Input}
+use Rattle.format.specs.Refusals.{streamOverBudget, planRows, writeRows}
+use Rattle.planner.specs.declared.encoder.Encoded.{Encoded}
+use Rattle.planner.specs.declared.encoder.Encoded.the-variants as encoded
+use Rattle.planner.specs.declared.plan.Plan.{Plan}
+use Rattle.planner.specs.declared.plan.Plan.the-variants as plan
+use Rattle.planner.specs.declared.plan.SizeBound.{SizeBound}
+use Rattle.planner.specs.declared.plan.SizeBound.the-variants as sized
+
+-- ---- the writing call: "either the format written and the number of bytes appended, or a refusal number"
+
+-- 0, or the refusal's number
+abbrev pub encodedNumber : Encoded → ℕ
+encodedNumber (encoded.File format bytes) = 0
+encodedNumber (encoded.Refused why) = numberOf why
+
+-- the bytes appended; a refusal has none
+abbrev pub encodedBytes : Encoded → ℕ
+encodedBytes (encoded.File format bytes) = bytes
+encodedBytes (encoded.Refused why) = 0
+
+-- the format written, as a list of one; a refusal has none
+abbrev pub encodedFormat : Encoded → List EncodedBmpFormat
+encodedFormat (encoded.File format bytes) = format ∷ []
+encodedFormat (encoded.Refused why) = []
+
+-- what they must be, and the later buffer: "After a refusal the whole buffer is as before. After a file, bytes before the offset and after the
+-- last appended byte are as before"
+abbrev pub bytesFor : Check → Input → ℕ
+bytesFor check.Passed i = fileSize maxFile i
+bytesFor (check.Refused why) i = 0
+
+abbrev pub formatFor : Check → Input → List EncodedBmpFormat
+formatFor check.Passed i = formatOf maxFile (modeOf i) i ∷ []
+formatFor (check.Refused why) i = []
+
+abbrev pub laterFor : Check → Input → ℕ → List ℕ → List ℕ
+laterFor check.Passed i offset was = put was offset (fileOf maxFile i)
+laterFor (check.Refused why) i offset was = was
+
+-- the same as one answer, of a check
+abbrev pub encodedFor : Check → Input → Encoded
+encodedFor check.Passed i = encoded.File (formatOf maxFile (modeOf i) i) (fileSize maxFile i)
+encodedFor (check.Refused why) i = encoded.Refused why
+
+-- 16, the last of the table
+abbrev pub streamCheck : Input → Check
+streamCheck i = firstOf ((streamOverBudget maxFile i, StreamOverBudget) ∷ [])
+
+-- the answer where a plan is not ready; of a ready one it is free
+abbrev pub refusalOf : Plan → Encoded
+refusalOf (plan.Ready sizes) = encoded.Refused FileTooLarge
+refusalOf (plan.Refused why) = encoded.Refused why
+
+-- the promise of the writing call, of the answer and of the buffer as it was and as it is later
+pub record Written (i : Input) (offset : ℕ) (was later : List ℕ) (answer : Encoded) : Type 0 where
+  -- the first row of the table that applies, or 0
+  pub number : encodedNumber answer ≡ firstNumber (writeRows maxFile i (length was) offset)
+  pub bytes : encodedBytes answer ≡ bytesFor (firstOf (writeRows maxFile i (length was) offset)) i
+  pub format : encodedFormat answer ≡ formatFor (firstOf (writeRows maxFile i (length was) offset)) i
+  pub buffer : later ≡ laterFor (firstOf (writeRows maxFile i (length was) offset)) i offset was
+  -- demand 3, of the appended bytes alone
+  pub shown : encodedNumber answer ≡ 0 → Demand3 i (take (encodedBytes answer) (drop offset later))
+
+-- ---- the size query: "the bound or a refusal number"
+
+abbrev pub boundNumber : SizeBound → ℕ
+boundNumber (sized.Bytes bytes) = 0
+boundNumber (sized.Refused why) = numberOf why
+
+abbrev pub boundBytes : SizeBound → ℕ
+boundBytes (sized.Bytes bytes) = bytes
+boundBytes (sized.Refused why) = 0
+
+abbrev pub boundFor : Check → Input → ℕ
+boundFor check.Passed i = boundOf maxFile i
+boundFor (check.Refused why) i = 0
+
+-- the promise of the size query
+pub record Sized (i : Input) (answer : SizeBound) : Type 0 where
+  pub number : boundNumber answer ≡ firstNumber (planRows maxFile i)
+  pub bytes : boundBytes answer ≡ boundFor (firstOf (planRows maxFile i)) i
