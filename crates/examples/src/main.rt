@@ -1,13 +1,20 @@
 // Runs document 01's examples on the code and prints what comes out: M1 to M8 (row codes), M9 (samples),
-// M10 (row stride), M11 (masks); then, for each width of 0 to 32 bits, the sum of all 256 samples fitted
+// M10 (row stride), M11 (masks), M12 (a file, with its bound) and the two lines after it; then, for each width of 0 to 32 bits, the sum of all 256 samples fitted
 // to it, and a checksum of the codes of all rows of 1 to 7 cells over the indices 0, 1 and 17.
 ghost use mathlib.Core.Path.{_≡_};
 ghost use Prim.Native.Nat.{_<_, _≤_};
 ghost use lib.ListN.{length};
 use leaves::bitfields::quantise;
 use leaves::bitfields::validate;
+use leaves::encoder::EncodeSource;
+use leaves::image::BmpPixelFormat;
+use leaves::options::EncodeOptions;
 use leaves::types::row_stride;
 use libc::STDOUT_FILENO;
+use planner::encoder::Encoded;
+use planner::encoder::encode_into;
+use planner::plan::SizeBound;
+use planner::plan::encoded_size_bound;
 use rows::rle::encode_rle4_row;
 use rows::rle::encode_rle8_row;
 
@@ -24,6 +31,13 @@ fn bytes(buf: &[u8], n: usize)
         io::write_all(STDOUT_FILENO, b" ");
         io::print_hex(STDOUT_FILENO, buf[i] as u64, 2);
         i += 1;
+    }
+}
+
+// The first n bytes of a buffer, or all of it.
+fn shown(buf: &[u8], n: usize) {
+    if n <= buf.len() {
+        bytes(buf, n);
     }
 }
 
@@ -147,6 +161,44 @@ fn all_rows(four: bool) {
     number(h);
 }
 
+// Pal8 of one row, all 7, with an empty minimal palette.
+fn sevens(width: u32, stride: usize) -> EncodeSource {
+    EncodeSource {
+        format: BmpPixelFormat::Pal8,
+        width,
+        height: 1,
+        stride,
+        has_palette: true,
+        has_icc: false,
+        has_linked_icc: false,
+    }
+}
+
+fn minimal() -> EncodeOptions {
+    let mut options = EncodeOptions::new();
+    options.minimal_palette = true;
+    options
+}
+
+// The bound, and the file appended to nothing; or the refusal's number, twice.
+fn file(width: u32, stride: usize, plane: &[u8]) {
+    let src = sevens(width, stride);
+    let options = minimal();
+    let none = [0u8; 0];
+    let bound = encoded_size_bound(src, options, plane, &none, &none, &none);
+    match bound {
+        SizeBound::Bytes(n) => number(n as u64),
+        SizeBound::Refused(why) => number(why.number() as u64),
+    }
+    let mut space = [0u8; 128];
+    let out: &mut [u8] = &mut space;
+    let answer = encode_into(src, options, plane, &none, &none, &none, out, 0);
+    match answer {
+        Encoded::File(_, n) => shown(out, n),
+        Encoded::Refused(why) => number(why.number() as u64),
+    }
+}
+
 fn row_examples() {
     io::write_all(STDOUT_FILENO, b"M1");
     codes(&[5u8], false);
@@ -179,6 +231,12 @@ fn main() {
     mask_check(16, [0x50000, 0, 0, 0]);
     mask_check(16, [0xA00, 0, 0, 0]);
     mask_check(16, [0, 0, 0, 0xFF00]);
+    io::write_all(STDOUT_FILENO, b"\nM12");
+    file(5, 5, &[7u8; 5]);
+    io::write_all(STDOUT_FILENO, b"\n4 x 1");
+    file(4, 4, &[7u8; 4]);
+    io::write_all(STDOUT_FILENO, b"\none byte short");
+    file(4, 6, &[7u8; 5]);
     io::write_all(STDOUT_FILENO, b"\nfitted");
     fitted_sums();
     io::write_all(STDOUT_FILENO, b"\nrows");

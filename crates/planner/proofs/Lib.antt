@@ -5,3 +5,4 @@ pub mod HeadWrites
 pub mod Longs
 pub mod ModeLaws
 pub mod PlanLaws
+pub mod Promises
