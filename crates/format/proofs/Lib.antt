@@ -1,6 +1,10 @@
 pub mod Acceptance
 pub mod Channels
+pub mod DecodeExamples
+pub mod Decoding
+pub mod ExampleInputs
 pub mod Examples
+pub mod FileExamples
 pub mod FileLaws
 pub mod FileSizes
 pub mod HeadFields
@@ -15,5 +19,7 @@ pub mod Pictures
 pub mod PlainBody
 pub mod PlainCells
 pub mod Readings
+pub mod RefusalExamples
 pub mod SourceRows
 pub mod StreamBody
+pub mod Unpacking

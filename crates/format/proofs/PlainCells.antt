@@ -25,7 +25,7 @@ use Rattle.format.specs.Readers.{wordAt, dwordAt, rowLength, cellWord, f
 use Rattle.format.specs.Shown.{index, rgb}
 use Rattle.leaves.proofs.ListLaws.{length-tab}
 use Rattle.rows.proofs.PackLaws.{depth}
-use Rattle.rows.proofs.Unpacking.{packed-at, cellAt-append}
+use Rattle.format.proofs.Unpacking.{packed-at, cellAt-append}
 use Rattle.format.proofs.SourceRows.{padded-at, cells-at}
 
 -- ---- the row's length

@@ -11,7 +11,7 @@ use Rattle.leaves.specs.declared.image.BmpPixelFormat.{BmpPixelFormat}
 use Rattle.leaves.specs.declared.image.BmpPixelFormat.the-variants.{Rgba, Rgb24, Bgra, Bgr24, Rgb555, Rgb565, Pal8, Indexed4, Indexed2, Indexed1}
 use Rattle.leaves.specs.Formats.{bitsPerPixel, bytesPerPixel}
 use Rattle.leaves.specs.Lists.{tab, cat}
-use Rattle.rows.specs.Decode.{filled, decode}
+use Rattle.format.specs.Decode.{filled, decode}
 use Rattle.rows.specs.RleCodes.{cells}
 use Rattle.rows.specs.StoredRows.{rowOf, sourceRow}
 use Rattle.rows.specs.Stream.{stream}
@@ -22,7 +22,7 @@ use Rattle.format.specs.Input.{Input}
 use Rattle.format.specs.Readers.{Fields, fieldsOf, shownHeight, paletteOf, streamed, body, shows}
 use Rattle.format.specs.Shown.{Cell, index}
 use Rattle.leaves.proofs.ListLaws.{getD-cat}
-use Rattle.rows.proofs.Decoding.{decode-stream}
+use Rattle.format.proofs.Decoding.{decode-stream}
 use Rattle.rows.proofs.Scans.{length-cells, cell-at}
 use Rattle.format.proofs.HeadFields.{pixels-at, fields-read}
 use Rattle.format.proofs.HeadTable.{palette-read}

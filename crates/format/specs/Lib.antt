@@ -1,4 +1,5 @@
 pub mod Accepted
+pub mod Decode
 pub mod Demand
 pub mod Expectation
 pub mod File

@@ -7,7 +7,7 @@ use lib.Count.{trailingZeros}
 use lib.Dec.{ltb, leb, eqb}
 use lib.ListN.{length, getD, drop}
 use Rattle.leaves.specs.Lists.{tab}
-use Rattle.rows.specs.Decode.{StreamCause, Decoded, filled, refused, cellAt, decode}
+use Rattle.format.specs.Decode.{StreamCause, Decoded, filled, refused, cellAt, decode}
 use Rattle.format.specs.Shown.{Cell, index, rgb, rgba, Shown}
 
 -- the older one "knows only the 40-byte header fields", the newer one "also the 108- and 124-byte headers, 2-bit cells and alpha masks"

@@ -1,6 +1,4 @@
 pub mod AllRows
-pub mod DecodeExamples
-pub mod Decoding
 pub mod MaskCells
 pub mod PackLaws
 pub mod RleBlocks
@@ -8,4 +6,3 @@ pub mod RleBytes
 pub mod Scans
 pub mod StreamPlaces
 pub mod Streams
-pub mod Unpacking

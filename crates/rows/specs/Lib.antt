@@ -1,4 +1,3 @@
-pub mod Decode
 pub mod Packing
 pub mod RleCodes
 pub mod StoredRows

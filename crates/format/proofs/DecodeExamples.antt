@@ -1,12 +1,10 @@
--- Worked examples of the reader and of the row coder, computed.
+-- Worked examples of the reader, computed.
 use mathlib.Core.Path.{_≡_, refl}
 use mathlib.Core.List.{List, [], _∷_, map}
 use Prim.Native.Nat.{ℕ}
 use lib.ListN.{replicate}
 use Rattle.leaves.specs.Lists.{tab}
-use Rattle.rows.specs.Packing.{digits, packedByte, packed}
-use Rattle.rows.specs.RleCodes.{cells, scan, bytes, codes, rowCodes}
-use Rattle.rows.specs.Decode.{Decoded, filled, refused, badCode, cellAt, pairCell, dataRead, next, decode}
+use Rattle.format.specs.Decode.{Decoded, filled, refused, badCode, cellAt, pairCell, dataRead, next, decode}
 
 -- bytes that a reader takes at a depth, in a picture of one row of `width` cells, and what it makes of them
 pub record Reading : Type 0 where
@@ -38,30 +36,3 @@ readings =
 pub readings-hold : map (λ (e : Reading). decode (e .depth) (e .width) (e .bytes) (e .width) 0 []) readings ≡ map (λ (e : Reading). e .result) readings
 unfolding decode next pairCell cellAt dataRead tab
 readings-hold = refl
-
--- a row's indices, and its codes at a depth
-pub record Coding : Type 0 where
-  pub depth : ℕ
-  pub row : List ℕ
-  pub result : List ℕ
-
-abbrev pub coding : ℕ → List ℕ → List ℕ → Coding
-coding depth row result = record { depth = depth; row = row; result = result }
-
--- document 01's examples of the row coder
-abbrev pub codings : List Coding
-codings =
-    coding 8 (5 ∷ []) (0x01 ∷ 0x05 ∷ [])
-    ∷ coding 8 (1 ∷ 2 ∷ []) (0x01 ∷ 0x01 ∷ 0x01 ∷ 0x02 ∷ [])
-    ∷ coding 8 (1 ∷ 2 ∷ 3 ∷ []) (0x00 ∷ 0x03 ∷ 0x01 ∷ 0x02 ∷ 0x03 ∷ 0x00 ∷ [])
-    ∷ coding 8 (1 ∷ 2 ∷ 3 ∷ 3 ∷ []) (0x01 ∷ 0x01 ∷ 0x01 ∷ 0x02 ∷ 0x02 ∷ 0x03 ∷ [])
-    ∷ coding 8 (replicate 256 7) (0xFF ∷ 0x07 ∷ 0x01 ∷ 0x07 ∷ [])
-    ∷ coding 4 (1 ∷ 2 ∷ []) (0x01 ∷ 0x12 ∷ 0x01 ∷ 0x20 ∷ [])
-    ∷ coding 4 (1 ∷ 2 ∷ 3 ∷ 4 ∷ 5 ∷ []) (0x00 ∷ 0x05 ∷ 0x12 ∷ 0x34 ∷ 0x50 ∷ 0x00 ∷ [])
-    ∷ coding 4 (19 ∷ 3 ∷ []) (0x02 ∷ 0x33 ∷ [])
-    ∷ []
-
--- each is coded so
-pub codings-hold : map (λ (e : Coding). rowCodes (e .depth) (e .row)) codings ≡ map (λ (e : Coding). e .result) codings
-unfolding rowCodes cells codes scan bytes packed packedByte digits tab
-codings-hold = refl

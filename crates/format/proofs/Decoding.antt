@@ -10,19 +10,19 @@ use borrow.Author.Tests.{le-ltb, eqb-true, ne-eqb}
 use lib.Dec.{ltb, eqb}
 use lib.ListN.{length, getD, take, drop, length-append, length-drop, take-append-drop}
 use lib.Seq.{getD-take}
 use Rattle.rows.specs.declared.rle.Block.{Block}
 use Rattle.rows.specs.declared.rle.Block.the-variants.{Pair, Absolute}
 use Rattle.leaves.specs.Lists.{tab, cat}
 use Rattle.rows.specs.Packing.{packed}
 use Rattle.rows.specs.RleCodes.{cells, scan, same, lone, runLength, gatherLength, block, width, dataBytes, bytes, codes, rowCodes}
 use Rattle.rows.specs.StoredRows.{rowOf, sourceRow}
 use Rattle.rows.specs.Stream.{endMark, streamRow, stream}
-use Rattle.rows.specs.Decode.{filled, cellAt, pairCell, dataRead, unlessFilled, next, decode}
+use Rattle.format.specs.Decode.{filled, cellAt, pairCell, dataRead, unlessFilled, next, decode}
 use Rattle.leaves.proofs.ListLaws.{length-tab, tab-ext}
 use Rattle.rows.proofs.RleBlocks.{scanned, choose-cases, block-sound}
 use Rattle.rows.proofs.RleBytes.{cell-small}
 use Rattle.rows.proofs.Scans.{length-cells}
-use Rattle.rows.proofs.Unpacking.{packed-at, cellAt-append, pairByte, Codable, codable, data-read, take-tab}
+use Rattle.format.proofs.Unpacking.{packed-at, cellAt-append, pairByte, Codable, codable, data-read, take-tab}
 
 -- ---- a run's cells
 

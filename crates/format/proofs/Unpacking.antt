@@ -12,11 +12,11 @@ use lib.ListN.{length, getD, take, List·getD-append}
 use lib.Pow.{pow-pos}
 use lib.Seq.{ext-getD, getD-take, length-take-le}
 use Rattle.leaves.specs.Lists.{tab}
 use Rattle.rows.specs.Packing.{digits, packedByte, packed}
 use Rattle.rows.specs.RleCodes.{dataBytes}
-use Rattle.rows.specs.Decode.{cellAt, pairCell, dataRead}
+use Rattle.format.specs.Decode.{cellAt, pairCell, dataRead}
 use Rattle.leaves.proofs.ListLaws.{length-tab, getD-tab}
 use Rattle.rows.proofs.PackLaws.{pow-pow, Depth, depth}
 
 -- ---- digits
 
