@@ -9,7 +9,6 @@ use borrow.Author.Tests.{lt-ltb, leb-false}
 use lib.Dec.{eqb, leb}
 use lib.ListN.{length, getD, replicate}
 use Rattle.leaves.specs.declared.image.BmpPixelFormat.{BmpPixelFormat}
-use Rattle.leaves.specs.declared.image.BmpPixelFormat.the-variants.{Rgba, Rgb24, Bgra, Bgr24, Rgb555, Rgb565, Pal8, Indexed4, Indexed2, Indexed1}
 use Rattle.rows.specs.declared.pack.MaskLayout.{MaskLayout}
 use Rattle.rows.specs.declared.pack.RowPack.{RowPack}
 use Rattle.rows.specs.declared.pack.RowPack.the-variants.{Bgra32, Bgr24, Words16, Indexed, Masks}
@@ -31,7 +30,7 @@ use Rattle.rows.proofs.PackLaws.{Depth, depth, digits-byte}
 use Rattle.rows.proofs.RleBlocks.{block-sound}
 use Rattle.format.proofs.FileSizes.{length-rows, pack-ok}
 use Rattle.format.proofs.HeadFields.{dword-bytes, firstPart, restPart, file-parts, length-file}
-use Rattle.format.proofs.Modes.{masks-given, planned-in, no-tail, used-in}
+use Rattle.format.proofs.Modes.{masks-given, planned-in, no-tail, coded-cases, used-in}
 use Rattle.format.proofs.SourceRows.{source-small}
 
 -- ---- the size
@@ -255,16 +254,7 @@ stream-bytes q w h plane stride = cat-bytes _ h (λ s. joined (codes-bytes q 0 _
 
 -- the depths that are coded
 coded-depth : (f : BmpPixelFormat) → coded f ≡ true → Depth (bitsPerPixel f)
-coded-depth Rgba e = absurd (false≢true e)
-coded-depth Rgb24 e = absurd (false≢true e)
-coded-depth Bgra e = absurd (false≢true e)
-coded-depth Bgr24 e = absurd (false≢true e)
-coded-depth Rgb555 e = absurd (false≢true e)
-coded-depth Rgb565 e = absurd (false≢true e)
-coded-depth Pal8 e = depth 8 refl
-coded-depth Indexed4 e = depth 4 refl
-coded-depth Indexed2 e = absurd (false≢true e)
-coded-depth Indexed1 e = absurd (false≢true e)
+coded-depth = coded-cases (λ (f : BmpPixelFormat). Depth (bitsPerPixel f)) (depth 8 refl) (depth 4 refl)
 
 pixel-bytes : (i : Input) → Accepted i → Bytes (pixels maxFile i)
 unfolding pixels streamOf

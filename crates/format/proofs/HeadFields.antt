@@ -97,7 +97,7 @@ bits-le Indexed2 = omega arith
 bits-le Indexed1 = omega arith
 
 -- an accepted depth is at most 32
-depth-le : (m : Mode) (i : Input) → (m ≡ masked → (i .options .bitfields .bpp ≡ 16) ⊎ (i .options .bitfields .bpp ≡ 32)) → depthIn m i ≤ 32
+pub depth-le : (m : Mode) (i : Input) → (m ≡ masked → (i .options .bitfields .bpp ≡ 16) ⊎ (i .options .bitfields .bpp ≡ 32)) → depthIn m i ≤ 32
 depth-le masked i d = masked-depth (i .options .bitfields .bpp) (d refl)
 depth-le calibrated i d = bits-le (i .source .format)
 depth-le profiled i d = bits-le (i .source .format)
@@ -130,15 +130,18 @@ firstPart i n =
 abbrev pub restPart : Input → List ℕ
 restPart i = headRest (modeOf i) i (headBytes i - 14 + rawBytes i)
 
+-- the file by its parts
 pub file-parts : (i : Input)
     → fileOf maxFile i ≡ firstPart i (fileSize maxFile i) ++ (restPart i ++ (colourTable i ++ (pixels maxFile i ++ tailOf (modeOf i) i)))
 unfolding fileOf headOf
 file-parts i = simp append-assoc
 
+-- the file header has 14 bytes
 pub length-fileHeader : (size off : ℕ) → length (fileHeader size off) ≡ 14
 unfolding fileHeader le32 le16
 length-fileHeader size off = refl
 
+-- the first part of the info header has 40
 pub length-infoHeader : (hs w h d c im x y n : ℕ) → length (infoHeader hs w h d c im x y n) ≡ 40
 unfolding infoHeader le32 le16
 length-infoHeader hs w h d c im x y n = refl

@@ -1,16 +1,20 @@
 -- Which mode a call has.
 use mathlib.Core.Path.{_≡_, refl, sym, ap, _∙_}
 use mathlib.Core.Bool.{Bool, true, false, not, cond, false≢true, _&&_}
+use mathlib.Core.List.{[]}
 use Prim.Native.Nat.{ℕ, _<_}
 use borrow.Author.Tests.{ltb-true}
 use lib.Dec.{ltb}
 use lib.ListN.{length}
+use Rattle.leaves.specs.declared.image.BmpPixelFormat.{BmpPixelFormat}
+use Rattle.leaves.specs.declared.image.BmpPixelFormat.the-variants.{Rgba, Rgb24, Bgra, Bgr24, Rgb555, Rgb565, Pal8, Indexed4, Indexed2, Indexed1}
 use Rattle.leaves.specs.Refusals.{profileMode}
 use Rattle.format.specs.File.{Mode, masked, calibrated, profiled, plain, modeOf, tailOf, coded, isPlain, rlePlanned, streamOf, budget, streamUsed}
 use Rattle.format.specs.Input.{Input}
 
 -- ---- masks
 
+-- whether the mode is mask mode
 abbrev pub isMasked : Mode → Bool
 isMasked masked = true
 isMasked calibrated = false
@@ -29,9 +33,11 @@ given-mode i =
     go false false true = refl
     go false false false = refl
 
+-- mask mode has masks
 pub masks-given : (i : Input) → modeOf i ≡ masked → i .options .«has_bitfields» ≡ true
 masks-given i e = given-mode i ∙ ap isMasked e
 
+-- the other modes have none
 pub masks-absent : (i : Input) (m : Mode) → modeOf i ≡ m → isMasked m ≡ false → i .options .«has_bitfields» ≡ false
 masks-absent i m e other = given-mode i ∙ ap isMasked e ∙ other
 
@@ -47,9 +53,23 @@ plain-mode calibrated e = absurd (false≢true e)
 plain-mode profiled e = absurd (false≢true e)
 plain-mode plain e = refl
 
+-- both sides of a conjunction
 pub both : (a b : Bool) → (a && b) ≡ true → (a ≡ true) × (b ≡ true)
 both true b e = (refl, e)
 both false b e = absurd (false≢true e)
+
+-- only Pal8 and Indexed4 are coded: what is so of both is so of a coded source
+pub coded-cases : (P : BmpPixelFormat → Type 0) → P Pal8 → P Indexed4 → (f : BmpPixelFormat) → coded f ≡ true → P f
+coded-cases P a b Rgba e = absurd (false≢true e)
+coded-cases P a b Rgb24 e = absurd (false≢true e)
+coded-cases P a b Bgra e = absurd (false≢true e)
+coded-cases P a b Bgr24 e = absurd (false≢true e)
+coded-cases P a b Rgb555 e = absurd (false≢true e)
+coded-cases P a b Rgb565 e = absurd (false≢true e)
+coded-cases P a b Pal8 e = a
+coded-cases P a b Indexed4 e = b
+coded-cases P a b Indexed2 e = absurd (false≢true e)
+coded-cases P a b Indexed1 e = absurd (false≢true e)
 
 -- where RLE is planned: in the plain mode only, of a coded source that is not top-down
 pub record PlannedIn (i : Input) : Type 0 where
@@ -57,6 +77,7 @@ pub record PlannedIn (i : Input) : Type 0 where
   pub source : coded (i .source .format) ≡ true
   pub bottom-up : i .options .«top_down» ≡ false
 
+-- a planned stream says so
 pub planned-in : (i : Input) → rlePlanned i ≡ true → PlannedIn i
 unfolding rlePlanned
 planned-in i e =
@@ -71,15 +92,20 @@ planned-in i e =
     parts false b c d h = absurd (false≢true h)
 
 -- a plain file has no profile
-pub no-tail : (i : Input) → PlannedIn i → length (tailOf (modeOf i) i) ≡ 0
+pub tail-empty : (i : Input) → PlannedIn i → tailOf (modeOf i) i ≡ []
 unfolding tailOf
-no-tail i p = ap (λ (m : Mode). length (tailOf m i)) (p .mode)
+tail-empty i p = ap (λ (m : Mode). tailOf m i) (p .mode)
+
+-- it has no bytes
+pub no-tail : (i : Input) → PlannedIn i → length (tailOf (modeOf i) i) ≡ 0
+no-tail i p = ap length (tail-empty i p)
 
 -- where a stream is used: it is planned, and under the budget
 pub record UsedIn (limit : ℕ) (i : Input) : Type 0 where
   pub planned : PlannedIn i
   pub under : length (streamOf i) < budget limit i
 
+-- a used stream says so
 pub used-in : (limit : ℕ) (i : Input) → streamUsed limit i ≡ true → UsedIn limit i
 unfolding streamUsed
 used-in limit i e =

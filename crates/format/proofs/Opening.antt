@@ -19,7 +19,7 @@ use Rattle.format.specs.Readers.{Reader, older, newer, unknownDepth, unk
 use Rattle.format.specs.Demand.{twoBits, alphaMasked}
 use Rattle.format.proofs.HeadFields.{fields-read}
 use Rattle.format.proofs.HeadWhole.{head-long, first-there}
-use Rattle.format.proofs.Modes.{isMasked, given-mode, used-in}
+use Rattle.format.proofs.Modes.{isMasked, given-mode, coded-cases, used-in}
 
 -- ---- any file
 
@@ -88,16 +88,10 @@ rows-open Indexed1 = record { newer-depth = refl; older-depth = refl; newer-comp
 -- a stream
 stream-opens : (f : BmpPixelFormat) → coded f ≡ true → Opens (twoBits f) false (cond (eqb (bitsPerPixel f) 8) 1 2) (bitsPerPixel f)
 unfolding knowsDepth knowsCompression pairs
-stream-opens Rgba e = absurd (false≢true e)
-stream-opens Rgb24 e = absurd (false≢true e)
-stream-opens Bgra e = absurd (false≢true e)
-stream-opens Bgr24 e = absurd (false≢true e)
-stream-opens Rgb555 e = absurd (false≢true e)
-stream-opens Rgb565 e = absurd (false≢true e)
-stream-opens Pal8 e = record { newer-depth = refl; older-depth = refl; newer-compression = refl; older-compression = refl; paired = refl }
-stream-opens Indexed4 e = record { newer-depth = refl; older-depth = refl; newer-compression = refl; older-compression = refl; paired = refl }
-stream-opens Indexed2 e = absurd (false≢true e)
-stream-opens Indexed1 e = absurd (false≢true e)
+stream-opens =
+    coded-cases (λ (f : BmpPixelFormat). Opens (twoBits f) false (cond (eqb (bitsPerPixel f) 8) 1 2) (bitsPerPixel f))
+    (record { newer-depth = refl; older-depth = refl; newer-compression = refl; older-compression = refl; paired = refl })
+    (record { newer-depth = refl; older-depth = refl; newer-compression = refl; older-compression = refl; paired = refl })
 
 -- a plain file has a stream only of a source that is coded
 plain-opens : (f : BmpPixelFormat) (used : Bool) → (used ≡ true → coded f ≡ true)

@@ -1,14 +1,13 @@
 -- What the readers show of a stream.
 use mathlib.Core.Path.{_≡_, refl, sym, ap, _∙_}
 use mathlib.Core.Logic.{_⊎_, inl, inr}
-use mathlib.Core.Bool.{true, false, cond, false≢true, _||_}
+use mathlib.Core.Bool.{true, false, cond, _||_}
 use mathlib.Core.List.{List, [], _++_}
 use Prim.Native.Nat.{ℕ, zero, suc, _+_, _-_, _*_, _%_, _^_, _≤_, _<_}
 use native.Mathlib.Omega.{arith}
 use lib.Dec.{eqb}
 use lib.ListN.{length, getD, drop}
 use Rattle.leaves.specs.declared.image.BmpPixelFormat.{BmpPixelFormat}
-use Rattle.leaves.specs.declared.image.BmpPixelFormat.the-variants.{Rgba, Rgb24, Bgra, Bgr24, Rgb555, Rgb565, Pal8, Indexed4, Indexed2, Indexed1}
 use Rattle.leaves.specs.Formats.{bitsPerPixel, bytesPerPixel}
 use Rattle.leaves.specs.Lists.{tab, cat}
 use Rattle.format.specs.Decode.{filled, decode}
@@ -26,7 +25,7 @@ use Rattle.format.proofs.Decoding.{decode-stream}
 use Rattle.rows.proofs.Scans.{length-cells, cell-at}
 use Rattle.format.proofs.HeadFields.{pixels-at, fields-read}
 use Rattle.format.proofs.HeadTable.{palette-read}
-use Rattle.format.proofs.Modes.{masks-absent, used-in}
+use Rattle.format.proofs.Modes.{masks-absent, coded-cases, used-in}
 use Rattle.format.proofs.Pictures.{height-shown, picture-shown}
 use Rattle.format.proofs.SourceRows.{length-source, source-at}
 
@@ -94,19 +93,11 @@ record Coded (f : BmpPixelFormat) : Type 0 where
   kind : (eqb (cond (eqb (bitsPerPixel f) 8) 1 2) 1 || eqb (cond (eqb (bitsPerPixel f) 8) 1 2) 2) ≡ true
   shown : (byte : ℕ → ℕ) → plainlyShown f byte ≡ index (byte 0 % 2 ^ bitsPerPixel f)
 
--- only Pal8 and Indexed4 are coded
 coded-source : (f : BmpPixelFormat) → coded f ≡ true → Coded f
 unfolding plainlyShown
-coded-source Rgba e = absurd (false≢true e)
-coded-source Rgb24 e = absurd (false≢true e)
-coded-source Bgra e = absurd (false≢true e)
-coded-source Bgr24 e = absurd (false≢true e)
-coded-source Rgb555 e = absurd (false≢true e)
-coded-source Rgb565 e = absurd (false≢true e)
-coded-source Pal8 e = record { deep = inr refl; one = refl; step = refl; kind = refl; shown = λ byte. refl }
-coded-source Indexed4 e = record { deep = inl refl; one = refl; step = refl; kind = refl; shown = λ byte. refl }
-coded-source Indexed2 e = absurd (false≢true e)
-coded-source Indexed1 e = absurd (false≢true e)
+coded-source =
+    coded-cases Coded (record { deep = inr refl; one = refl; step = refl; kind = refl; shown = λ byte. refl })
+    (record { deep = inl refl; one = refl; step = refl; kind = refl; shown = λ byte. refl })
 
 -- ---- when a stream is used
 

@@ -1,7 +1,7 @@
 -- From the table's outcome to the promise of the writing call; and the promise determines answer and buffer.
 use mathlib.Core.Path.{_≡_, refl, sym, ap, subst, _∙_}
 use mathlib.Core.Bool.{Bool, true, false, false≢true, cond, _||_}
-use mathlib.Core.List.{List, [], _∷_, _++_}
+use mathlib.Core.List.{List, [], _∷_}
 use Prim.Native.Nat.{ℕ, _+_, _-_, _≤_}
 use native.Mathlib.Omega.{arith}
 use borrow.Author.Tests.{ltb-false}
@@ -12,7 +12,7 @@ use Rattle.leaves.specs.declared.error.Check.the-variants.{Passed, Refused}
 use Rattle.leaves.specs.declared.error.Refusal.{Refusal}
 use Rattle.leaves.specs.declared.error.Refusal.the-variants.{BufferTooShort, StreamOverBudget}
 use Rattle.leaves.specs.Put.{put}
-use Rattle.leaves.specs.Refusals.{checkNumber, firstOf, firstNumber}
+use Rattle.leaves.specs.Refusals.{checkNumber, firstOf}
 use Rattle.format.specs.Demand.{Demand3}
 use Rattle.format.specs.File.{maxFile, boundOf, fileOf, fileSize}
 use Rattle.format.specs.Input.{Input}
@@ -23,14 +23,15 @@ use Rattle.format.proofs.HeadFields.{length-file}
 use Rattle.format.proofs.Passing.{or-false}
 use Rattle.planner.specs.declared.encoder.Encoded.{Encoded}
 use Rattle.planner.specs.declared.encoder.Encoded.the-variants as encoded
-use Rattle.planner.specs.Answers.{encodedNumber, encodedBytes, encodedFormat, bytesFor, formatFor, laterFor, encodedFor, streamCheck, Written}
+use Rattle.planner.specs.Answers.{encodedNumber, encodedBytes, encodedFormat, bytesFor, formatFor, laterFor, Written}
+use Rattle.planner.specs.Plans.{encodedFor, streamCheck}
 
 -- ---- the outcome
 
 -- a plan that is refused
-pub plan-stops : (i : Input) (room offset : ℕ) (why : Refusal) → firstOf (planRows maxFile i) ≡ Refused why → firstOf (writeRows maxFile i room offset) ≡ Refused why
+pub refused-plan : (i : Input) (room offset : ℕ) (why : Refusal) → firstOf (planRows maxFile i) ≡ Refused why → firstOf (writeRows maxFile i room offset) ≡ Refused why
 unfolding writeRows
-plan-stops i room offset why e = first-stop (planRows maxFile i) ((bufferTooShort maxFile i room offset, BufferTooShort) ∷ (streamOverBudget maxFile i, StreamOverBudget) ∷ []) why e
+refused-plan i room offset why e = first-stop (planRows maxFile i) ((bufferTooShort maxFile i room offset, BufferTooShort) ∷ (streamOverBudget maxFile i, StreamOverBudget) ∷ []) why e
 
 -- what is left once the plan is ready
 after-plan : (i : Input) (room offset : ℕ) → firstOf (planRows maxFile i) ≡ Passed
@@ -52,6 +53,7 @@ pub record Roomy (i : Input) (room offset bound : ℕ) : Type 0 where
   pub inside : offset ≤ room
   pub room-left : offset + bound ≤ room
 
+-- the test of the room says so
 pub roomy : (i : Input) (room offset bound : ℕ) (r : Bool) → firstOf (planRows maxFile i) ≡ Passed → bound ≡ boundOf maxFile i
     → r ≡ (ltb room offset || ltb (room - offset) bound) → r ≡ false → Roomy i room offset bound
 unfolding bufferTooShort

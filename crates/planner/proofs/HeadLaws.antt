@@ -63,16 +63,20 @@ unfolding maskTail dwords le32
 tail-parts masks true e = rw e
 tail-parts masks false e = rw e
 
+-- with an alpha mask
 pub tail-alpha : (masks : List ℕ) → (getD masks 3 0 ≡ 0 → ⊥) → maskTail masks ≡ dwords (getD masks 0 0 ∷ getD masks 1 0 ∷ getD masks 2 0 ∷ []) ++ le32 (getD masks 3 0)
 tail-alpha masks some = tail-parts masks true (ap not (ne-eqb (getD masks 3 0) 0 some))
 
+-- without one
 pub tail-none : (masks : List ℕ) → getD masks 3 0 ≡ 0 → maskTail masks ≡ dwords (getD masks 0 0 ∷ getD masks 1 0 ∷ getD masks 2 0 ∷ [])
 tail-none masks none = tail-parts masks false (ap not (eq-eqb (getD masks 3 0) 0 none)) ∙ append-nil (dwords (getD masks 0 0 ∷ getD masks 1 0 ∷ getD masks 2 0 ∷ []))
 
+-- it has at least 12 bytes
 pub tail-long : (masks : List ℕ) → 12 ≤ length (maskTail masks)
 unfolding maskTail dwords le32
 tail-long masks = omega arith
 
+-- with an alpha mask it has 16
 pub tail-length : (masks : List ℕ) → (getD masks 3 0 ≡ 0 → ⊥) → length (maskTail masks) ≡ 16
 unfolding dwords le32
 tail-length masks some = ap length (tail-alpha masks some)

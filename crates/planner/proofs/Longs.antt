@@ -54,6 +54,7 @@ pub record Low (z : ℤ) : Type 0 where
   pub sub : natAbs (toZ w32 (ofZ w32 (back z))) ≤ 4294967295
   pub bits : 4294967295 - natAbs (toZ w32 (ofZ w32 (back z))) ≡ ofZ w32 z
 
+-- of every LONG below 0
 pub low : (z : ℤ) → SFits w32 z → ltZ (toZ w32 (ofZ w32 z)) (pos 0) ≡ true → Low z
 low (pos n) f e = let q : ltZ (pos n) (pos 0) ≡ true = rw (toZ-ofZ f) at e in absurd (not-suc-le-zero (ltb-true n 0 q))
 low (negsuc n) f e =
@@ -71,6 +72,7 @@ pub record High (z : ℤ) : Type 0 where
   pub cast : T (nonNeg (toZ w32 (ofZ w32 z))) × Fits w32 (natAbs (toZ w32 (ofZ w32 z)))
   pub bits : natAbs (toZ w32 (ofZ w32 z)) ≡ ofZ w32 z
 
+-- of every other LONG
 pub high : (z : ℤ) → SFits w32 z → ltZ (toZ w32 (ofZ w32 z)) (pos 0) ≡ false → High z
 high (pos n) f e =
     let b : n < 2147483648 = f .sfits in

@@ -1,10 +1,10 @@
 -- What a mode decides: laws of the functions that go by it.
 use mathlib.Core.Path.{_≡_, refl, sym, ap, _∙_}
 use mathlib.Core.Bool.{Bool, true, false, not, cond, _&&_, false≢true}
-use mathlib.Core.List.{List, [], _∷_}
-use Prim.Native.Nat.{ℕ, _+_, _*_, _/_, _≤_, _<_}
+use mathlib.Core.List.{List}
+use Prim.Native.Nat.{ℕ, _+_, _/_, _≤_, _<_}
 use native.Mathlib.Omega.{arith}
-use borrow.Author.Tests.{eq-eqb, ne-eqb, eqb-true, eqb-false, not-true, not-false}
+use borrow.Author.Tests.{eqb-true, eqb-false}
 use lib.Dec.{eqb}
 use lib.ListN.{length, getD}
 use Rattle.leaves.specs.declared.bitfields.MaskShiftLen.{MaskShiftLen}
@@ -12,9 +12,9 @@ use Rattle.leaves.specs.Bytes.{le32}
 use Rattle.leaves.specs.Formats.{bitsPerPixel, isIndexed}
 use Rattle.leaves.specs.Masks.{count, lowest, isOneRun, hasAlphaMask, ShiftLen}
 use Rattle.leaves.specs.Refusals.{profileMode}
-use Rattle.leaves.specs.Sizes.{paletteEntryCount, writtenPaletteEntries}
+use Rattle.leaves.specs.Sizes.{writtenPaletteEntries}
 use Rattle.rows.specs.declared.pack.MaskLayout.{MaskLayout}
-use Rattle.format.specs.File.{Mode, masked, calibrated, profiled, plain, isPlain, coded, rlePlanned, modeOf, channelOf, layoutOf, isRgb565, maskTail, headRest, headerSize, entriesOf}
+use Rattle.format.specs.File.{Mode, masked, calibrated, profiled, plain, isPlain, coded, rlePlanned, modeOf, channelOf, layoutOf, maskTail, headRest, headerSize, entriesOf}
 use Rattle.format.specs.Headers.{dwords}
 use Rattle.format.specs.Input.{Input}
 use Rattle.leaves.proofs.TableCounts.{entries-le, written-le}
@@ -32,6 +32,13 @@ mode-flags i a b c p q r = sym (λ z. cond (p z) masked (cond (q z) calibrated (
 -- masks are given in mask mode
 pub mask-mode : (i : Input) → i .options .«has_bitfields» ≡ true → masked ≡ modeOf i
 mask-mode i e = mode-flags i true _ _ e refl refl
+
+-- what is so in the four modes is so in every mode
+pub every-mode : {A : Type 0} → (f g : Mode → A) → f masked ≡ g masked → f calibrated ≡ g calibrated → f profiled ≡ g profiled → f plain ≡ g plain → (m : Mode) → f m ≡ g m
+every-mode f g a b c d masked = a
+every-mode f g a b c d calibrated = b
+every-mode f g a b c d profiled = c
+every-mode f g a b c d plain = d
 
 -- without them, what is so in the other three modes is so
 pub other-mode : {A : Type 0} → (i : Input) (f : Mode → A) (x : A) → i .options .«has_bitfields» ≡ false → x ≡ f calibrated → x ≡ f profiled → x ≡ f plain → x ≡ f (modeOf i)
@@ -73,6 +80,7 @@ unfolding maskTail dwords le32
 mask-tail masks true e = rw e
 mask-tail masks false e = rw e
 
+-- the length of what stands behind the first 40 bytes in mask mode
 pub masked-rest : (i : Input) (b : Bool) → masked ≡ modeOf i → hasAlphaMask (i .options .bitfields .masks) ≡ b → cond b 16 12 ≡ length (headRest (modeOf i) i 0)
 unfolding headRest
 masked-rest i b m e = mask-tail (i .options .bitfields .masks) b e ∙ ap (λ (n : Mode). length (headRest n i 0)) m
@@ -94,6 +102,7 @@ planned-by i m e = ap (λ (n : Mode). isPlain n && coded (i .source .format) && 
 
 -- ---- the colour table
 
+-- an indexed source has the entries that the palette and the option say
 pub entries-indexed : (i : Input) (n d : ℕ) → isIndexed (i .source .format) ≡ true → d ≡ bitsPerPixel (i .source .format)
     → n ≡ writtenPaletteEntries d (length (i .palette) / 4) (i .options .«minimal_palette») → n ≡ entriesOf i
 unfolding entriesOf
@@ -102,10 +111,12 @@ entries-indexed i n d e f h =
     ∙ ap (λ (k : ℕ). writtenPaletteEntries k (length (i .palette) / 4) (i .options .«minimal_palette»)) f
     ∙ sym (ap (λ (b : Bool). cond b (writtenPaletteEntries (bitsPerPixel (i .source .format)) (length (i .palette) / 4) (i .options .«minimal_palette»)) 0) e)
 
+-- direct colour has none
 pub entries-direct : (i : Input) → isIndexed (i .source .format) ≡ false → 0 ≡ entriesOf i
 unfolding entriesOf
 entries-direct i e = sym (ap (λ (b : Bool). cond b (writtenPaletteEntries (bitsPerPixel (i .source .format)) (length (i .palette) / 4) (i .options .«minimal_palette»)) 0) e)
 
+-- there are at most 256
 pub entries-small : (i : Input) → entriesOf i ≤ 256
 unfolding entriesOf
 entries-small i = go (isIndexed (i .source .format))

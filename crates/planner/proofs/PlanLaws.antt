@@ -1,6 +1,5 @@
 -- Laws of the plan: rows in a row, sizes as numbers, and what a plan says of the call.
 use mathlib.Core.Path.{_≡_, refl, sym, ap, _∙_}
-use mathlib.Core.Logic.{_⊎_}
 use mathlib.Core.Bool.{Bool, true, false, false≢true, not, cond}
 use mathlib.Core.List.{List, [], _∷_, _++_}
 use Prim.Native.Nat.{ℕ, _+_, _-_, _*_, _≤_, _<_, min, max}
@@ -8,37 +7,29 @@ use native.Mathlib.Nat.{mul-le-mul}
 use native.Mathlib.Omega.{arith}
 use borrow.Author.Tests.{not-true, not-false, lt-ltb, le-ltb, le-leb, lt-leb, leb-true, leb-false}
 use lib.Dec.{leb}
-use lib.ListN.{length, length-append}
-use Rattle.leaves.specs.declared.image.BmpPixelFormat.{BmpPixelFormat}
-use Rattle.leaves.specs.declared.image.BmpPixelFormat.the-variants.{Rgba, Rgb24, Bgra, Bgr24, Rgb555, Rgb565, Pal8, Indexed4, Indexed2, Indexed1}
+use lib.ListN.{length}
 use Rattle.leaves.specs.declared.error.Check.{Check}
 use Rattle.leaves.specs.declared.error.Check.the-variants as check
 use Rattle.leaves.specs.declared.error.Refusal.{Refusal}
 use Rattle.leaves.specs.declared.error.Refusal.the-variants.{MaskSource, FileTooLarge}
-use Rattle.leaves.specs.Bytes.{le32}
-use Rattle.leaves.specs.Formats.{bytesPerPixel, bitsPerPixel, isIndexed}
+use Rattle.leaves.specs.Formats.{bytesPerPixel, isIndexed}
 use Rattle.leaves.specs.Masks.{bitfieldsRows}
 use Rattle.leaves.specs.Refusals.{checkNumber, firstOf, firstNumber, profileMode, dimensionRows, paletteRows, modeRows, planeRows}
 use Rattle.leaves.specs.Sizes.{rowStride}
 use Rattle.leaves.proofs.FirstOf.{check-determined, first-pass, first-stop}
-use Rattle.format.specs.File.{Mode, masked, calibrated, profiled, plain, modeOf, tailOf, depthIn, entriesOf, headRest, headBytes, rawBytes, rlePlanned, maxFile, budget, plainSize, boundOf}
-use Rattle.format.specs.Headers.{v5Fields}
+use Rattle.format.specs.File.{modeOf, tailOf, depthIn, headBytes, rawBytes, rlePlanned, maxFile, budget, plainSize, boundOf}
 use Rattle.format.specs.Input.{Input}
 use Rattle.format.specs.Refusals.{maskSource, fileTooLarge, givenMasksRows, checkRows, planRows}
 use Rattle.format.proofs.Acceptance.{checked}
-use Rattle.format.proofs.FileSizes.{masked-depth}
+use Rattle.format.proofs.HeadFields.{depth-le}
 use Rattle.format.proofs.Modes.{masks-given, planned-in, no-tail}
 use Rattle.planner.specs.declared.plan.Plan.{Plan}
 use Rattle.planner.specs.declared.plan.Plan.the-variants as plan
 use Rattle.planner.specs.declared.plan.SizeBound.the-variants as sized
 use Rattle.planner.specs.declared.plan.Sizes.{Sizes}
 use Rattle.planner.specs.Answers.{Sized, boundFor}
-use Rattle.planner.specs.Calls.{called}
 use Rattle.planner.specs.Plans.{sizesOf, planBy, planOf, sizesPlan}
-
--- the call as the functions see it that look at source and options alone
-abbrev pub bare : Input → Input
-bare i = called (i .source) (i .options) [] [] [] []
+use Rattle.planner.proofs.Unread.{bare, unframed, masks-bare, checks-unframed, depth-bare}
 
 -- ---- 6 to 11
 
@@ -46,10 +37,12 @@ bare i = called (i .source) (i .options) [] [] [] []
 pub by-check : (r x : Check) (rows : List (Bool × Refusal)) → checkNumber r ≡ firstNumber rows → r ≡ x → firstOf rows ≡ x
 by-check r x rows e q = sym (check-determined r (firstOf rows) e) ∙ q
 
+-- without masks they pass
 pub no-masks : (i : Input) → not (i .options .«has_bitfields») ≡ true → check.Passed ≡ firstOf (givenMasksRows i)
 unfolding givenMasksRows
 no-masks i e = rw (not-true (i .options .«has_bitfields») e)
 
+-- the masks are refused
 pub masks-stop : (i : Input) (r : Check) (why : Refusal) → not (i .options .«has_bitfields») ≡ false
     → checkNumber r ≡ firstNumber (bitfieldsRows (i .options .bitfields .bpp) (i .options .bitfields .masks)) → r ≡ check.Refused why
     → check.Refused why ≡ firstOf (givenMasksRows i)
@@ -78,15 +71,19 @@ masks-rest i r s t g e q f n =
 
 -- ---- 1 to 13
 
+-- 1 and 2
 abbrev pub dims : Input → List (Bool × Refusal)
 dims i = dimensionRows (i .source .width) (i .source .height)
 
+-- 3 and 4
 abbrev pub pals : Input → List (Bool × Refusal)
 pals i = paletteRows (isIndexed (i .source .format)) (i .source .«has_palette») (length (i .palette))
 
+-- 5
 abbrev pub modes : Input → List (Bool × Refusal)
 modes i = modeRows (i .options .«has_bitfields») (i .options .«has_calibrated_rgb») (profileMode (i .source .«has_linked_icc») (i .source .«has_icc») (i .options .«embed_icc»))
 
+-- 12 and 13
 abbrev pub planes : Input → List (Bool × Refusal)
 planes i = planeRows (i .source .width) (i .source .height) (i .source .stride) (bytesPerPixel (i .source .format)) (length (i .plane))
 
@@ -96,15 +93,17 @@ pub pals-check : (i : Input) (r x : Check) (b : Bool) → b ≡ isIndexed (i .so
 pals-check i r x b f e q =
     by-check r x (pals i) (e ∙ ap (λ (z : Bool). firstNumber (paletteRows z (i .source .«has_palette») (length (i .palette)))) f) q
 
+-- the mode by the flag of the profiles
 pub modes-check : (i : Input) (r x : Check) (b : Bool) → b ≡ profileMode (i .source .«has_linked_icc») (i .source .«has_icc») (i .options .«embed_icc»)
     → checkNumber r ≡ firstNumber (modeRows (i .options .«has_bitfields») (i .options .«has_calibrated_rgb») b) → r ≡ x → firstOf (modes i) ≡ x
 modes-check i r x b f e q =
     by-check r x (modes i) (e ∙ ap (λ (z : Bool). firstNumber (modeRows (i .options .«has_bitfields») (i .options .«has_calibrated_rgb») z)) f) q
 
+-- the masks by what their check was handed
 pub masks-check : (i : Input) (r x : Check) → r ≡ firstOf (givenMasksRows (bare i)) → r ≡ x → firstOf (givenMasksRows i) ≡ x
-unfolding givenMasksRows
-masks-check i r x e q = sym e ∙ q
+masks-check i r x e q = ap firstOf (masks-bare i) ∙ sym e ∙ q
 
+-- the plane by the bytes of a pixel
 pub planes-check : (i : Input) (r : Check) (n : ℕ) → n ≡ bytesPerPixel (i .source .format)
     → checkNumber r ≡ firstNumber (planeRows (i .source .width) (i .source .height) (i .source .stride) n (length (i .plane))) → firstOf (planes i) ≡ r
 planes-check i r n f e =
@@ -115,16 +114,19 @@ planes-check i r n f e =
 stop-first : (a b c d e : List (Bool × Refusal)) (why : Refusal) → firstOf a ≡ check.Refused why → firstOf (a ++ b ++ c ++ d ++ e) ≡ check.Refused why
 stop-first a b c d e why p = first-stop (a ++ b ++ c ++ d) e why (first-stop (a ++ b ++ c) d why (first-stop (a ++ b) c why (first-stop a b why p)))
 
+-- the dimensions refuse
 pub stop-dims : (i : Input) (why : Refusal) → firstOf (dims i) ≡ check.Refused why → check.Refused why ≡ firstOf (checkRows i)
 unfolding checkRows
 stop-dims i why p = sym (stop-first (dims i) (pals i) (modes i) (givenMasksRows i) (planes i) why p)
 
+-- the palette refuses
 pub stop-pals : (i : Input) (why : Refusal) → firstOf (dims i) ≡ check.Passed → firstOf (pals i) ≡ check.Refused why → check.Refused why ≡ firstOf (checkRows i)
 unfolding checkRows
 stop-pals i why a p =
     sym (first-stop (dims i ++ pals i ++ modes i ++ givenMasksRows i) (planes i) why
     (first-stop (dims i ++ pals i ++ modes i) (givenMasksRows i) why (first-stop (dims i ++ pals i) (modes i) why (first-pass (dims i) (pals i) a ∙ p))))
 
+-- the mode refuses
 pub stop-modes : (i : Input) (why : Refusal) → firstOf (dims i) ≡ check.Passed → firstOf (pals i) ≡ check.Passed → firstOf (modes i) ≡ check.Refused why
     → check.Refused why ≡ firstOf (checkRows i)
 unfolding checkRows
@@ -133,6 +135,7 @@ stop-modes i why a b p =
     (first-stop (dims i ++ pals i ++ modes i) (givenMasksRows i) why
     (first-pass (dims i ++ pals i) (modes i) (first-pass (dims i) (pals i) a ∙ b) ∙ p)))
 
+-- the masks refuse
 pub stop-masks : (i : Input) (why : Refusal) → firstOf (dims i) ≡ check.Passed → firstOf (pals i) ≡ check.Passed → firstOf (modes i) ≡ check.Passed
     → firstOf (givenMasksRows i) ≡ check.Refused why → check.Refused why ≡ firstOf (checkRows i)
 unfolding checkRows
@@ -161,6 +164,7 @@ fits-below head raw tail b h e = e ∙ go (leb tail (maxFile - (head + raw))) re
     go true q = sym (le-leb (head + raw + tail) maxFile (omega (arith, leb-true tail (maxFile - (head + raw)) q)))
     go false q = sym (lt-leb (head + raw + tail) maxFile (omega (arith, leb-false tail (maxFile - (head + raw)) q)))
 
+-- where the body alone is too large
 pub fits-over : (head raw tail : ℕ) (b : Bool) → maxFile < head + raw → b ≡ leb (head + raw) maxFile → b ≡ leb (head + raw + tail) maxFile
 fits-over head raw tail b h e = e ∙ lt-leb (head + raw) maxFile h ∙ sym (lt-leb (head + raw + tail) maxFile (omega arith))
 
@@ -184,6 +188,7 @@ plain-refused head raw tail width true fits e f n = absurd (false≢true (sym e)
 plain-refused head raw tail width false fits e f n =
     rw (lt-ltb maxFile (head + raw + tail) (leb-false (head + raw + tail) maxFile (sym f ∙ not-true fits n)))
 
+-- and where the file fits
 pub plain-ready : (head raw tail width room : ℕ) (rle fits : Bool) → rle ≡ false → fits ≡ leb (head + raw + tail) maxFile → not fits ≡ false
     → room ≡ min raw (maxFile + 1 - head)
     → plan.Ready (record { head = head; raw = raw; file = head + raw + tail; «file_fits» = fits; rle = rle; «rle_budget» = room; bound = head + raw + tail })
@@ -194,78 +199,27 @@ plain-ready head raw tail width room false fits e f n b =
     rw (le-ltb maxFile (head + raw + tail) (leb-true (head + raw + tail) maxFile (sym f ∙ not-false fits n)))
     (λ z. plan.Ready (record { head = head; raw = raw; file = head + raw + tail; «file_fits» = f z; rle = false; «rle_budget» = b z; bound = head + raw + tail }))
 
--- ---- what the lists that a function is not handed do not change
-
-depth-bare : (m : Mode) (i : Input) → depthIn m (bare i) ≡ depthIn m i
-depth-bare masked i = refl
-depth-bare calibrated i = refl
-depth-bare profiled i = refl
-depth-bare plain i = refl
-
-pub raw-is : (i : Input) (d s : ℕ) → d ≡ depthIn (modeOf (bare i)) (bare i) → s ≡ rowStride (i .source .width) d → s * i .source .height ≡ rawBytes i
-unfolding rawBytes modeOf
-raw-is i d s e f = ap (λ (z : ℕ). z * i .source .height) (f ∙ ap (rowStride (i .source .width)) (e ∙ depth-bare (modeOf i) i))
-
-rest-bare : (m : Mode) (i : Input) → length (headRest m (called (i .source) (i .options) [] (i .palette) [] []) 0) ≡ length (headRest m i 0)
-unfolding headRest v5Fields le32
-rest-bare masked i = refl
-rest-bare calibrated i = refl
-rest-bare profiled i = simp length-append
-rest-bare plain i = refl
-
-pub head-is : (i : Input) (n : ℕ) → n ≡ headBytes (called (i .source) (i .options) [] (i .palette) [] []) → n ≡ headBytes i
-unfolding headBytes modeOf entriesOf
-head-is i n e = e ∙ ap (λ (z : ℕ). 14 + 40 + z + 4 * entriesOf i) (rest-bare (modeOf i) i)
-
-tail-bare : (m : Mode) (i : Input) → tailOf m (called (i .source) (i .options) [] [] (i .icc) (i .linked)) ≡ tailOf m i
-unfolding tailOf
-tail-bare masked i = refl
-tail-bare calibrated i = refl
-tail-bare profiled i = refl
-tail-bare plain i = refl
-
-pub tail-is : (i : Input) (t : List ℕ) → t ≡ tailOf (modeOf (called (i .source) (i .options) [] [] (i .icc) (i .linked))) (called (i .source) (i .options) [] [] (i .icc) (i .linked))
-    → length t ≡ length (tailOf (modeOf i) i)
-unfolding modeOf
-tail-is i t e = ap length (e ∙ tail-bare (modeOf i) i)
-
-pub rle-is : (i : Input) (b : Bool) → b ≡ rlePlanned (bare i) → b ≡ rlePlanned i
-unfolding rlePlanned modeOf
-rle-is i b e = e
-
-pub checks-is : (i : Input) (r x : Check) → r ≡ firstOf (checkRows (called (i .source) (i .options) (i .plane) (i .palette) [] [])) → r ≡ x → firstOf (checkRows i) ≡ x
-unfolding checkRows givenMasksRows
-checks-is i r x e q = sym e ∙ q
-
 -- ---- the plan
+
+-- the table's outcome by the call that is checked
+pub checks-is : (i : Input) (r x : Check) → r ≡ firstOf (checkRows (unframed i)) → r ≡ x → firstOf (checkRows i) ≡ x
+checks-is i r x e q = ap firstOf (checks-unframed i) ∙ sym e ∙ q
+
+-- the raw bytes by the depth
+pub raw-is : (i : Input) (d s : ℕ) → d ≡ depthIn (modeOf (bare i)) (bare i) → s ≡ rowStride (i .source .width) d → s * i .source .height ≡ rawBytes i
+unfolding rawBytes
+raw-is i d s e f = ap (λ (z : ℕ). z * i .source .height) (f ∙ ap (rowStride (i .source .width)) (e ∙ sym (depth-bare i)))
 
 -- a stream is planned only where there is no tail
 pub rle-no-tail : (i : Input) (b : Bool) (n : ℕ) → b ≡ rlePlanned i → n ≡ length (tailOf (modeOf i) i) → b ≡ true → n ≡ 0
 rle-no-tail i b n e f q = f ∙ no-tail i (planned-in i (sym e ∙ q))
-
-bits-le : (f : BmpPixelFormat) → bitsPerPixel f ≤ 32
-bits-le Rgba = omega arith
-bits-le Rgb24 = omega arith
-bits-le Bgra = omega arith
-bits-le Bgr24 = omega arith
-bits-le Rgb555 = omega arith
-bits-le Rgb565 = omega arith
-bits-le Pal8 = omega arith
-bits-le Indexed4 = omega arith
-bits-le Indexed2 = omega arith
-bits-le Indexed1 = omega arith
-
-depth-le : (m : Mode) (i : Input) → (m ≡ masked → (i .options .bitfields .bpp ≡ 16) ⊎ (i .options .bitfields .bpp ≡ 32)) → depthIn m i ≤ 32
-depth-le masked i d = masked-depth (i .options .bitfields .bpp) (d refl)
-depth-le calibrated i d = bits-le (i .source .format)
-depth-le profiled i d = bits-le (i .source .format)
-depth-le plain i d = bits-le (i .source .format)
 
 -- a stored row is below 2^33 bytes, and the rows leave 2^33 below 2^64
 stride-le : (w d : ℕ) → w < 2147483648 → d ≤ 32 → rowStride w d ≤ 8589934588
 unfolding rowStride
 stride-le w d h k = let top : w * d ≤ w * 32 = mul-le-mul (omega arith) k in omega (arith, top)
 
+-- the raw bytes of a call that passes leave 2^33 below 2^64
 pub raw-fits : (i : Input) → firstOf (checkRows i) ≡ check.Passed → rawBytes i + 8589934592 ≤ 18446744073709551616
 unfolding rawBytes
 raw-fits i e =
@@ -276,6 +230,7 @@ raw-fits i e =
     let all : rowStride (i .source .width) (depthIn (modeOf i) i) * i .source .height ≤ 8589934588 * 2147483647 = mul-le-mul long tall in
     omega (arith, all)
 
+-- a call that is refused has a refused plan
 pub plan-stops : (i : Input) (why : Refusal) → firstOf (checkRows i) ≡ check.Refused why → plan.Refused why ≡ planOf i
 unfolding planOf planRows
 plan-stops i why e =
@@ -311,6 +266,7 @@ refusalIn : Plan → Refusal → Refusal
 refusalIn (plan.Ready s) other = other
 refusalIn (plan.Refused why) other = why
 
+-- a ready plan: the rows 1 to 14 pass, and its sizes are the call's
 pub plan-ready : (i : Input) (s : Sizes) → planOf i ≡ plan.Ready s → (firstOf (planRows maxFile i) ≡ check.Passed) × (s ≡ sizesOf i)
 unfolding planOf isReady sizesIn
 plan-ready i s e = go (firstOf (planRows maxFile i)) refl e
@@ -319,6 +275,7 @@ plan-ready i s e = go (firstOf (planRows maxFile i)) refl e
     go check.Passed q f = (q, sym (ap (λ (p : Plan). sizesIn p s) f))
     go (check.Refused why) q f = absurd (false≢true (ap isReady f))
 
+-- a refused plan: the first of them refuses so
 pub plan-refused : (i : Input) (why : Refusal) → planOf i ≡ plan.Refused why → firstOf (planRows maxFile i) ≡ check.Refused why
 unfolding planOf refusalIn
 plan-refused i why e = go (firstOf (planRows maxFile i)) refl e
@@ -329,6 +286,7 @@ plan-refused i why e = go (firstOf (planRows maxFile i)) refl e
 
 -- ---- the size query
 
+-- of a ready plan
 pub sized-ready : (i : Input) (p : Plan) (s : Sizes) → p ≡ planOf i → p ≡ plan.Ready s → Sized i (sized.Bytes (s .bound))
 unfolding sizesOf
 sized-ready i p s e q =
@@ -338,6 +296,7 @@ sized-ready i p s e q =
       bytes = ap (λ (z : Sizes). z .bound) (both .1) ∙ sym (ap (λ (c : Check). boundFor c i) (both .0));
     }
 
+-- of a refused plan
 pub sized-refused : (i : Input) (p : Plan) (why : Refusal) → p ≡ planOf i → p ≡ plan.Refused why → Sized i (sized.Refused why)
 sized-refused i p why e q =
     let first = plan-refused i why (sym e ∙ q) in

@@ -1,7 +1,7 @@
 -- What the promises of the two calls amount to: they determine the answer, leave all other bytes alone, and refuse exactly what the table refuses.
 use mathlib.Core.Path.{_≡_, refl, sym, ap, _∙_}
 use mathlib.Core.Bool.{Bool, true, false, false≢true, cond}
-use mathlib.Core.List.{List, [], _∷_, _++_}
+use mathlib.Core.List.{List, [], _∷_}
 use Prim.Native.Nat.{ℕ, zero, suc, _+_, _≤_, _<_}
 use native.Mathlib.Nat.{not-suc-le-zero, le-of-suc-le-suc}
 use native.Mathlib.Omega.{arith}
@@ -10,11 +10,10 @@ use Rattle.leaves.specs.declared.encoder.EncodedBmpFormat.{EncodedBmpFormat}
 use Rattle.leaves.specs.declared.error.Check.{Check}
 use Rattle.leaves.specs.declared.error.Check.the-variants as check
 use Rattle.leaves.specs.declared.error.Refusal.{Refusal}
-use Rattle.leaves.specs.Put.{put}
-use Rattle.leaves.specs.Refusals.{numberOf, checkNumber, firstOf, firstNumber}
-use Rattle.format.specs.File.{maxFile, fileOf, fileSize}
+use Rattle.leaves.specs.Refusals.{numberOf, checkNumber, firstOf}
+use Rattle.format.specs.File.{maxFile, fileOf}
 use Rattle.format.specs.Input.{Input}
-use Rattle.format.specs.Refusals.{planRows, writeRows}
+use Rattle.format.specs.Refusals.{writeRows}
 use Rattle.leaves.proofs.FirstOf.{check-determined}
 use Rattle.leaves.proofs.Puts.{before-put, after-put}
 use Rattle.format.proofs.HeadFields.{length-file}
@@ -47,6 +46,7 @@ unfolding rebuilt encodedCheck
 rebuilds (encoded.File format bytes) s = refl
 rebuilds (encoded.Refused why) s = refl
 
+-- equal in all three, two answers are one
 pub encoded-determined : (r s : Encoded) → encodedNumber r ≡ encodedNumber s → encodedBytes r ≡ encodedBytes s → encodedFormat r ≡ encodedFormat s → r ≡ s
 encoded-determined r s number bytes format =
     let same = check-determined (encodedCheck r) (encodedCheck s) (sym (encoded-number r) ∙ number ∙ encoded-number s) in
@@ -77,11 +77,13 @@ unfolding boundBy boundCheck
 bound-by (sized.Bytes bytes) = refl
 bound-by (sized.Refused why) = refl
 
+-- equal in number and bytes, two bounds are one
 pub bound-determined : (r s : SizeBound) → boundNumber r ≡ boundNumber s → boundBytes r ≡ boundBytes s → r ≡ s
 bound-determined r s number bytes =
     let same = check-determined (boundCheck r) (boundCheck s) (sym (bound-number r) ∙ number ∙ bound-number s) in
     sym (bound-by r) ∙ (λ z. boundBy (same z) (bytes z)) ∙ bound-by s
 
+-- two bounds of which the promise holds are one
 pub sized-determined : (i : Input) (r s : SizeBound) → Sized i r → Sized i s → r ≡ s
 sized-determined i r s p q = bound-determined r s (p .number ∙ sym (q .number)) (p .bytes ∙ sym (q .bytes))
 
@@ -101,6 +103,7 @@ others-stay i offset was later r h p = go (firstOf (writeRows maxFile i (length 
         )
     go (check.Refused why) b l = (ap (take offset) l, ap (drop (offset + encodedBytes r)) l)
 
+-- a refusal leaves the buffer as it was
 pub refusal-changes-nothing : (i : Input) (offset : ℕ) (was later : List ℕ) (why : Refusal) → Written i offset was later (encoded.Refused why) → later ≡ was
 refusal-changes-nothing i offset was later why p =
     p .buffer ∙ ap (λ (c : Check). laterFor c i offset was) (check-determined (firstOf (writeRows maxFile i (length was) offset)) (check.Refused why) (sym (p .number)))

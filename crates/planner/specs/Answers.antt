@@ -6,17 +6,14 @@ use lib.ListN.{length, take, drop}
 use Rattle.leaves.specs.declared.encoder.EncodedBmpFormat.{EncodedBmpFormat}
 use Rattle.leaves.specs.declared.error.Check.{Check}
 use Rattle.leaves.specs.declared.error.Check.the-variants as check
-use Rattle.leaves.specs.declared.error.Refusal.the-variants.{FileTooLarge, StreamOverBudget}
 use Rattle.leaves.specs.Put.{put}
 use Rattle.leaves.specs.Refusals.{numberOf, checkNumber, firstOf, firstNumber}
 use Rattle.format.specs.Demand.{Demand3}
 use Rattle.format.specs.File.{modeOf, maxFile, fileSize, fileOf, boundOf, formatOf}
 use Rattle.format.specs.Input.{Input}
-use Rattle.format.specs.Refusals.{streamOverBudget, planRows, writeRows}
+use Rattle.format.specs.Refusals.{planRows, writeRows}
 use Rattle.planner.specs.declared.encoder.Encoded.{Encoded}
 use Rattle.planner.specs.declared.encoder.Encoded.the-variants as encoded
-use Rattle.planner.specs.declared.plan.Plan.{Plan}
-use Rattle.planner.specs.declared.plan.Plan.the-variants as plan
 use Rattle.planner.specs.declared.plan.SizeBound.{SizeBound}
 use Rattle.planner.specs.declared.plan.SizeBound.the-variants as sized
 
@@ -50,20 +47,6 @@ formatFor (check.Refused why) i = []
 abbrev pub laterFor : Check → Input → ℕ → List ℕ → List ℕ
 laterFor check.Passed i offset was = put was offset (fileOf maxFile i)
 laterFor (check.Refused why) i offset was = was
-
--- the same as one answer, of a check
-abbrev pub encodedFor : Check → Input → Encoded
-encodedFor check.Passed i = encoded.File (formatOf maxFile (modeOf i) i) (fileSize maxFile i)
-encodedFor (check.Refused why) i = encoded.Refused why
-
--- 16, the last of the table
-abbrev pub streamCheck : Input → Check
-streamCheck i = firstOf ((streamOverBudget maxFile i, StreamOverBudget) ∷ [])
-
--- the answer where a plan is not ready; of a ready one it is free
-abbrev pub refusalOf : Plan → Encoded
-refusalOf (plan.Ready sizes) = encoded.Refused FileTooLarge
-refusalOf (plan.Refused why) = encoded.Refused why
 
 -- the promise of the writing call, of the answer and of the buffer as it was and as it is later
 pub record Written (i : Input) (offset : ℕ) (was later : List ℕ) (answer : Encoded) : Type 0 where

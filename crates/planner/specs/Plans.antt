@@ -1,13 +1,13 @@
--- The plan of a call: its sizes, or the first of the refusals 1 to 14.
+-- What the planner's own functions answer. Their contracts cite these; the promises of the two calls (Answers) do not.
 use Prim.Native.Nat.{ℕ, _+_, _-_, _*_, min, max}
 use mathlib.Core.Bool.{Bool, not, cond, _&&_}
-use mathlib.Core.List.{List}
+use mathlib.Core.List.{List, [], _∷_}
 use lib.Dec.{ltb, leb}
 use Rattle.leaves.specs.declared.encoder.EncodedBmpFormat.{EncodedBmpFormat}
 use Rattle.leaves.specs.declared.encoder.EncodedBmpFormat.the-variants.{Bitfields, AlphaBitfields}
 use Rattle.leaves.specs.declared.error.Check.{Check}
 use Rattle.leaves.specs.declared.error.Check.the-variants as check
-use Rattle.leaves.specs.declared.error.Refusal.the-variants.{FileTooLarge}
+use Rattle.leaves.specs.declared.error.Refusal.the-variants.{FileTooLarge, StreamOverBudget}
 use Rattle.leaves.specs.declared.image.BmpPixelFormat.{BmpPixelFormat}
 use Rattle.leaves.specs.declared.image.BmpPixelFormat.the-variants as source
 use Rattle.leaves.specs.Formats.{plainToken}
@@ -16,14 +16,17 @@ use Rattle.leaves.specs.Refusals.{firstOf}
 use Rattle.leaves.specs.Sizes.{clrUsed}
 use Rattle.rows.specs.declared.rle.Rle.{Rle}
 use Rattle.rows.specs.declared.rle.Rle.the-variants.{Rle8, Rle4}
-use Rattle.format.specs.File.{Mode, masked, calibrated, profiled, plain, modeOf, depthIn, isRgb565, headerSize, storedHeight, imageSize, pelsPerMeter, headBytes, rawBytes, rlePlanned, maxFile, budget, plainSize, boundOf}
+use Rattle.format.specs.File.{Mode, masked, calibrated, profiled, plain, modeOf, depthIn, isRgb565, headerSize, storedHeight, imageSize, pelsPerMeter, headBytes, rawBytes, rlePlanned, maxFile, budget, fileSize, plainSize, boundOf, formatOf}
 use Rattle.format.specs.Headers.{infoHeader}
 use Rattle.format.specs.Input.{Input}
-use Rattle.format.specs.Refusals.{planRows}
+use Rattle.format.specs.Refusals.{streamOverBudget, planRows}
+use Rattle.planner.specs.declared.encoder.Encoded.{Encoded}
+use Rattle.planner.specs.declared.encoder.Encoded.the-variants as encoded
 use Rattle.planner.specs.declared.plan.Plan.{Plan}
 use Rattle.planner.specs.declared.plan.Plan.the-variants.{Ready, Refused}
 use Rattle.planner.specs.declared.plan.Sizes.{Sizes}
 
+-- the byte counts of a call
 unfoldable pub sizesOf : Input → Sizes
 sizesOf i =
     record {
@@ -36,6 +39,7 @@ sizesOf i =
       bound = boundOf maxFile i;
     }
 
+-- the plan: the sizes, or the first of 1 to 14
 abbrev pub planBy : Check → Sizes → Plan
 planBy check.Passed sizes = Ready sizes
 planBy (check.Refused why) sizes = Refused why
@@ -89,3 +93,17 @@ unfoldable pub infoOf : Input → ℕ → ℕ → ℕ → List ℕ
 infoOf i entries compression pixelBytes =
     infoHeader (headerSize (modeOf i) (i .source .format)) (i .source .width) (storedHeight i) (depthIn (modeOf i) i) compression (imageSize i pixelBytes)
     pelsPerMeter pelsPerMeter (clrUsed (depthIn (modeOf i) i) entries)
+
+-- the same as one answer, of a check
+abbrev pub encodedFor : Check → Input → Encoded
+encodedFor check.Passed i = encoded.File (formatOf maxFile (modeOf i) i) (fileSize maxFile i)
+encodedFor (check.Refused why) i = encoded.Refused why
+
+-- 16, the last of the table
+abbrev pub streamCheck : Input → Check
+streamCheck i = firstOf ((streamOverBudget maxFile i, StreamOverBudget) ∷ [])
+
+-- the answer where a plan is not ready; of a ready one it is free
+abbrev pub refusalOf : Plan → Encoded
+refusalOf (Ready sizes) = encoded.Refused FileTooLarge
+refusalOf (Refused why) = encoded.Refused why

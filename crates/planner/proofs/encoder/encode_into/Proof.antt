@@ -1,8 +1,7 @@
 use Rattle.planner.proofs.PlanLaws.{plan-ready, plan-refused}
-use Rattle.planner.proofs.CallLaws.{plan-stops, short-stops, roomy, written, written-refused}
-use Rattle.planner.specs.Plans.{sizesOf}
+use Rattle.planner.proofs.CallLaws.{refused-plan, short-stops, roomy, written, written-refused}
+use Rattle.planner.specs.Plans.{sizesOf, refusalOf, streamCheck}
 use Rattle.planner.specs.Calls.{called}
-use Rattle.planner.specs.Answers.{refusalOf, streamCheck}
 use Rattle.planner.specs.declared.plan.Sizes.{Sizes}
 use Rattle.planner.specs.declared.encoder.Encoded.the-variants as encoded
 use Rattle.format.proofs.Readings.{demand3-of-table}
@@ -16,12 +15,6 @@ use mathlib.Core.Path.{refl, sym, ap, _∙_}
 use borrow.Author.Needs.{needs}
 use Rattle.planner.proofs.encoder.encode_into.Statement.{statement}
 use Rattle.planner.proofs.encoder.encode_into.Tie as tie
-use Rattle.planner.proofs.encoder.encode_into.Reads as reads
-use Rattle.planner.proofs.encoder.encode_into.Lts as lts
-use Rattle.planner.proofs.encoder.refusal.Reads as refusal-reads
-use Rattle.planner.proofs.encoder.too_short.Reads as too-short-reads
-use Rattle.planner.proofs.encoder.write_into.Reads as write-into-reads
-use Rattle.planner.proofs.plan.plan_for.Reads as plan-for-reads
 
 -- src/encoder.rt:420:9
 plan-for-requires : tie.Need-plan-for-requires
@@ -47,7 +40,7 @@ returns c =
     let i = called (a .src) (a .options) (now (a .plane)) (now (a .palette)) (now (a .icc)) (now (a .linked-icc)) in
     let t = c .before .enum-told .given in
     let p = plan-refused i (t .0 .0) (sym (c .before .before .before .plan-for .ensures) ∙ t .1) in
-    written-refused i (a .offset) (now (a .out)) (c .refusal .result) (t .0 .0) (plan-stops i (length (now (a .out))) (a .offset) (t .0 .0) p)
+    written-refused i (a .offset) (now (a .out)) (c .refusal .result) (t .0 .0) (refused-plan i (length (now (a .out))) (a .offset) (t .0 .0) p)
     (c .refusal .ensures ∙ ap refusalOf (t .1))
 
 -- src/encoder.rt:424:8

@@ -6,7 +6,8 @@ use borrow.Author.Needs.{needs}
 use Rattle.planner.specs.Calls.{called}
 use Rattle.format.proofs.Acceptance.{plan-passed}
 use Rattle.format.proofs.Modes.{planned-in}
-use Rattle.planner.proofs.FileWrites.{sizes-head, sizes-rle, sizes-budget, planned-inside, budget-fits, stream-goes, RowsGo, rows-unplanned, rows-planned, stream-over, answer-by, later-by}
+use Rattle.planner.proofs.StreamWrites.{planned-inside}
+use Rattle.planner.proofs.WriteChoice.{sizes-head, sizes-rle, sizes-budget, budget-fits, stream-goes, RowsGo, rows-unplanned, rows-planned, stream-over, answer-by, later-by}
 use Rattle.planner.proofs.encoder.write_into.Statement.{statement}
 use Rattle.planner.proofs.encoder.write_into.Tie as tie
 

@@ -1,14 +1,17 @@
-use mathlib.Core.Path.{sym, ap, _∙_}
+use mathlib.Core.Path.{_≡_, refl, sym, ap, _∙_}
+use mathlib.Core.Bool.{Bool, true, cond}
 use mathlib.Core.List.{[]}
-use Prim.Native.Nat.{ℕ}
+use Prim.Native.Nat.{ℕ, _+_}
 use native.Mathlib.Omega.{arith}
 use borrow.Author.Needs.{needs, length-unmapped}
 use lib.IntN.{ℤ}
 use lib.ListN.{length}
 use Rattle.leaves.specs.Put.{put}
-use Rattle.format.specs.File.{modeOf}
+use Rattle.format.specs.File.{calibrated, profiled, plain, modeOf, isRgb565}
 use Rattle.planner.specs.Calls.{called, modeIs}
-use Rattle.planner.proofs.HeadWrites.{rest-masked, rest-calibrated, calibrated-length, profiled-length, rest-profiled, rest-long, long-rest-length, rest-none, same-mode}
+use Rattle.planner.proofs.HeadWrites.{rest-masked, rest-calibrated, rest-profiled, rest-long, rest-none}
+use Rattle.planner.proofs.ModeLaws.{other-rest}
+use Rattle.planner.proofs.Unread.{mode-bare}
 use Rattle.planner.proofs.encoder.write_rest.Statement.{statement}
 use Rattle.planner.proofs.encoder.write_rest.Tie as tie
 
@@ -40,11 +43,9 @@ write-v4-fields-requires c κs =
     let a = t .before .before .before .before .before .before .args in
     let e = sym (ap modeIs (t .enum-told2 .given .1)) ∙ t .before .before .mode-of .ensures in
     let g = t .before .before .before .before .before .before .good .1 .0 .1 .1 .1 .1 .1 .1 .1 .1 .1 .1 .0 .1 .1 in
-    omega (
-      arith,
-      calibrated-length (modeOf (called (a .src) (a .options) [] [] [] [])) (called (a .src) (a .options) [] [] [] []) e
-          (length-unmapped ℤ (a .options .«calibrated_rgb» .endpoints) 9 (g .0 .1 .0 .1)) (length-unmapped ℕ (a .options .«calibrated_rgb» .gamma) 3 (g .1 .0 .1 .0 .1)),
-    )
+    let nine = length-unmapped ℤ (a .options .«calibrated_rgb» .endpoints) 9 (g .0 .1 .0 .1) in
+    let three = length-unmapped ℕ (a .options .«calibrated_rgb» .gamma) 3 (g .1 .0 .1 .0 .1) in
+    omega (arith, other-rest (called (a .src) (a .options) [] [] [] []) calibrated 68 nine three e refl refl)
 
 enum-told-3 : tie.Need-enum-told-3
 enum-told-3 c = search needs
@@ -63,7 +64,10 @@ write-long-fields-requires c κs =
     let t = c .before .before .before in
     let a = t .before .before .before .before .before .before .args in
     let e = sym (ap modeIs (t .enum-told3 .given .1)) ∙ t .before .before .mode-of .ensures in
-    omega (arith, profiled-length (modeOf (called (a .src) (a .options) [] [] [] [])) (called (a .src) (a .options) [] [] [] []) e)
+    let g = t .before .before .before .before .before .before .good .1 .0 .1 .1 .1 .1 .1 .1 .1 .1 .1 .1 .0 .1 .1 in
+    let nine = length-unmapped ℤ (a .options .«calibrated_rgb» .endpoints) 9 (g .0 .1 .0 .1) in
+    let three = length-unmapped ℕ (a .options .«calibrated_rgb» .gamma) 3 (g .1 .0 .1 .0 .1) in
+    omega (arith, other-rest (called (a .src) (a .options) [] [] [] []) profiled 84 nine three e refl refl)
 
 add-write-v5-fields : tie.Need-add-write-v5-fields
 add-write-v5-fields c = search needs
@@ -73,7 +77,10 @@ write-v5-fields-requires c κs =
     let t = c .before .before .before .before .before .before .before in
     let a = t .before .before .before .before .before .before .args in
     let e = sym (ap modeIs (t .enum-told3 .given .1)) ∙ t .before .before .mode-of .ensures in
-    omega (arith, profiled-length (modeOf (called (a .src) (a .options) [] [] [] [])) (called (a .src) (a .options) [] [] [] []) e)
+    let g = t .before .before .before .before .before .before .good .1 .0 .1 .1 .1 .1 .1 .1 .1 .1 .1 .1 .0 .1 .1 in
+    let nine = length-unmapped ℤ (a .options .«calibrated_rgb» .endpoints) 9 (g .0 .1 .0 .1) in
+    let three = length-unmapped ℕ (a .options .«calibrated_rgb» .gamma) 3 (g .1 .0 .1 .0 .1) in
+    omega (arith, other-rest (called (a .src) (a .options) [] [] [] []) profiled 84 nine three e refl refl)
 
 enum-told-4 : tie.Need-enum-told-4
 enum-told-4 c = search needs
@@ -86,7 +93,11 @@ write-long-fields-requires-2 c κs =
     let t = c .before .before .before in
     let a = t .before .before .before .before .before .before .args in
     let e = sym (ap modeIs (t .enum-told4 .given .1)) ∙ t .before .before .mode-of .ensures in
-    omega (arith, long-rest-length (modeOf (called (a .src) (a .options) [] [] [] [])) (called (a .src) (a .options) [] [] [] []) e (sym (c .before .before .is-rgb565 .ensures) ∙ c .before .if1 .taken))
+    let g = t .before .before .before .before .before .before .good .1 .0 .1 .1 .1 .1 .1 .1 .1 .1 .1 .1 .0 .1 .1 in
+    let nine = length-unmapped ℤ (a .options .«calibrated_rgb» .endpoints) 9 (g .0 .1 .0 .1) in
+    let three = length-unmapped ℕ (a .options .«calibrated_rgb» .gamma) 3 (g .1 .0 .1 .0 .1) in
+    let deep : isRgb565 (a .src .format) ≡ true = sym (c .before .before .is-rgb565 .ensures) ∙ c .before .if1 .taken in
+    omega (arith, other-rest (called (a .src) (a .options) [] [] [] []) plain 68 nine three e refl (ap (λ (b : Bool). 14 + cond b 108 40) (sym deep)))
 
 same-length : tie.Need-same-length
 same-length c = search needs
@@ -119,13 +130,16 @@ returns-3 c =
     let t = c .before .before .before .before .before .before .before .before .before .before in
     let a = t .before .before .before .before .before .before .args in
     let e = sym (ap modeIs (t .enum-told3 .given .1)) ∙ t .before .before .mode-of .ensures in
+    let g = t .before .before .before .before .before .before .good .1 .0 .1 .1 .1 .1 .1 .1 .1 .1 .1 .1 .0 .1 .1 in
+    let nine = length-unmapped ℤ (a .options .«calibrated_rgb» .endpoints) 9 (g .0 .1 .0 .1) in
+    let three = length-unmapped ℕ (a .options .«calibrated_rgb» .gamma) 3 (g .1 .0 .1 .0 .1) in
     let profile = c .before .before .before .before .before .before .before .before .before .tail in
     let space = c .before .before .before .before .before .before .before .before .profile-space in
     let w = c .before .before .before .before .before .before .write-long-fields in
     let v = c .before .before .write-v5-fields in
     rest-profiled (modeOf (called (a .src) (a .options) [] [] [] [])) (called (a .src) (a .options) [] [] (a .icc .now) (a .linked-icc .now)) (a .buf .now) (w .last .1 .1 .0) (v .last .0) (profile .result .now) (a .at)
-    (a .profile-data) (space .result) e (same-mode (a .src) (a .options) [] (a .icc .now) (a .linked-icc .now)) (space .ensures) (profile .ensures)
-    (omega (arith, profiled-length (modeOf (called (a .src) (a .options) [] [] [] [])) (called (a .src) (a .options) [] [] [] []) e)) (w .ensures) (v .ensures)
+    (a .profile-data) (space .result) e (sym (mode-bare (called (a .src) (a .options) [] [] (a .icc .now) (a .linked-icc .now)))) (space .ensures) (profile .ensures)
+    (omega (arith, other-rest (called (a .src) (a .options) [] [] [] []) profiled 84 nine three e refl refl)) (w .ensures) (v .ensures)
 
 same-length-4 : tie.Need-same-length-4
 same-length-4 c = search needs

@@ -1,10 +1,12 @@
-use mathlib.Core.Path.{ap, _∙_}
+use mathlib.Core.Path.{sym, ap, _∙_}
 use native.Mathlib.Omega.{arith}
 use borrow.Author.Needs.{needs}
 use lib.ListN.{length}
 use Rattle.planner.specs.Calls.{called}
 use Rattle.format.proofs.Acceptance.{plan-passed}
-use Rattle.planner.proofs.FileWrites.{head-bytes-called, tail-called, tail-long, pack-called, sizes-head, sizes-raw, sizes-file, sizes-parts, pack-asked, rows-answer, rows-written}
+use Rattle.planner.proofs.RowWrites.{pack-asked, rows-answer, rows-written}
+use Rattle.planner.proofs.Unread.{pack-bare, tail-framed, head-tabled}
+use Rattle.planner.proofs.WriteChoice.{sizes-head, sizes-raw, sizes-file, sizes-parts}
 use Rattle.planner.proofs.encoder.write_rows.Statement.{statement}
 use Rattle.planner.proofs.encoder.write_rows.Tie as tie
 
@@ -29,11 +31,11 @@ write-head-requires c κs =
     let a = s .args in
     let i = called (a .src) (a .options) (a .plane .now) (a .palette .now) (a .icc .now) (a .linked-icc .now) in
     let parts = sizes-parts i (a .sizes) (s .pre .1 .1 .0) in
-    let head = head-bytes-called (a .src) (a .options) (a .plane .now) (a .palette .now) (a .icc .now) (a .linked-icc .now) in
+    let head = head-tabled i in
     let first = sizes-head i (a .sizes) (s .pre .1 .1 .0) in (
       plan-passed i (s .pre .0) .0 .some-height,
       (
-        omega (arith, ap length (tail-called (a .src) (a .options) (a .plane .now) (a .palette .now) (a .icc .now) (a .linked-icc .now)), parts, s .pre .1 .1 .1 .0),
+        omega (arith, ap length (tail-framed i), parts, s .pre .1 .1 .1 .0),
         (
           omega (arith, head, first, parts, s .pre .1 .1 .1 .0),
           omega (arith, head, first, parts, s .pre .1 .1 .1 .1),
@@ -63,7 +65,7 @@ pack-all-requires c κs =
     let a = s .args in
     let i = called (a .src) (a .options) (a .plane .now) (a .palette .now) (a .icc .now) (a .linked-icc .now) in
     let k = plan-passed i (s .pre .0) .0 in
-    let asked = pack-asked i k (r .result) (r .ensures ∙ pack-called (a .src) (a .options) (a .plane .now) (a .palette .now) (a .icc .now) (a .linked-icc .now)) in (
+    let asked = pack-asked i k (r .result) (r .ensures ∙ sym (pack-bare i)) in (
       asked .0,
       (
         asked .1 .0,
@@ -92,7 +94,7 @@ put-slice-requires c κs =
     let w = c .before .before .before .before .before .before .before .before .before .before .before .write-head in
     let a = s .args in
     let i = called (a .src) (a .options) (a .plane .now) (a .palette .now) (a .icc .now) (a .linked-icc .now) in
-    omega (arith, tail-long (a .src) (a .options) (a .plane .now) (a .palette .now) (a .icc .now) (a .linked-icc .now) (t .result .now) (t .ensures), sizes-parts i (a .sizes) (s .pre .1 .1 .0), s .pre .1 .1 .1 .1, w .kept .1 .1 .1 .1 .1 .1 .1 .1 .0, p .kept .1 .1 .1 .1 .1 .1 .0)
+    omega (arith, ap length (t .ensures ∙ sym (tail-framed i)), sizes-parts i (a .sizes) (s .pre .1 .1 .0), s .pre .1 .1 .1 .1, w .kept .1 .1 .1 .1 .1 .1 .1 .1 .0, p .kept .1 .1 .1 .1 .1 .1 .0)
 
 rows-format-requires : tie.Need-rows-format-requires
 rows-format-requires c κs = search needs
@@ -113,9 +115,9 @@ returns c =
     let i = called (a .src) (a .options) (a .plane .now) (a .palette .now) (a .icc .now) (a .linked-icc .now) in
     let e = s .pre .1 .1 .0 in
     let all = plan-passed i (s .pre .0) .0 in (
-      rows-answer (a .src) (a .options) (a .plane .now) (a .palette .now) (a .icc .now) (a .linked-icc .now) (c .rows-format .result) (a .sizes .file) all (s .pre .1 .0) (c .rows-format .ensures) (sizes-file i (a .sizes) e),
-      rows-written (a .src) (a .options) (a .plane .now) (a .palette .now) (a .icc .now) (a .linked-icc .now) (a .buf .now) (w .last .1 .1 .1 .1 .1 .1 .1 .1 .0) (p .last .1 .1 .1 .1 .1 .1 .0) (x .last .0) (t .result .now) (a .at) (a .sizes .head) (a .sizes .raw)
-          (a .sizes .file) (k .result) (r .result) all (s .pre .1 .0) (sizes-head i (a .sizes) e) (sizes-raw i (a .sizes) e) (sizes-file i (a .sizes) e) (k .ensures) (r .ensures)
+      rows-answer i all (s .pre .1 .0) (c .rows-format .result) (a .sizes .file) (c .rows-format .ensures) (sizes-file i (a .sizes) e),
+      rows-written i all (s .pre .1 .0) (a .buf .now) (w .last .1 .1 .1 .1 .1 .1 .1 .1 .0) (p .last .1 .1 .1 .1 .1 .1 .0) (x .last .0) (t .result .now) (a .at) (a .sizes .head) (a .sizes .raw)
+          (a .sizes .file) (k .result) (r .result) (sizes-head i (a .sizes) e) (sizes-raw i (a .sizes) e) (sizes-file i (a .sizes) e) (k .ensures) (r .ensures)
           (t .ensures) (omega (arith, sizes-parts i (a .sizes) e, s .pre .1 .1 .1 .1)) (w .ensures) (p .ensures) (x .ensures),
     )
 

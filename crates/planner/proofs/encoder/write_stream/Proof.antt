@@ -6,7 +6,8 @@ use Rattle.format.specs.File.{maxFile}
 use Rattle.planner.specs.Calls.{called}
 use Rattle.format.proofs.Acceptance.{plan-passed}
 use Rattle.format.proofs.Modes.{used-in, no-tail}
-use Rattle.planner.proofs.FileWrites.{head-bytes-called, tail-called, planned-inside, planned-stream, used-fits, stream-answer, stream-written}
+use Rattle.planner.proofs.StreamWrites.{planned-inside, planned-stream, used-fits, stream-answer, stream-written}
+use Rattle.planner.proofs.Unread.{tail-framed, head-tabled}
 use Rattle.planner.proofs.encoder.write_stream.Statement.{statement}
 use Rattle.planner.proofs.encoder.write_stream.Tie as tie
 
@@ -35,10 +36,10 @@ write-head-requires c κs =
     let s = c .before .before .before .before .before .before .before .before in
     let a = s .args in
     let i = called (a .src) (a .options) (a .plane .now) (a .palette .now) (a .icc .now) (a .linked-icc .now) in
-    let head = head-bytes-called (a .src) (a .options) (a .plane .now) (a .palette .now) (a .icc .now) (a .linked-icc .now) in (
+    let head = head-tabled i in (
       plan-passed i (s .pre .0) .0 .some-height,
       (
-        omega (arith, ap length (tail-called (a .src) (a .options) (a .plane .now) (a .palette .now) (a .icc .now) (a .linked-icc .now)), no-tail i (used-in maxFile i (s .pre .1 .0) .planned)),
+        omega (arith, ap length (tail-framed i), no-tail i (used-in maxFile i (s .pre .1 .0) .planned)),
         (
           omega (arith, head, used-fits i (s .pre .1 .0)),
           omega (arith, head, s .pre .1 .1 .0, s .pre .1 .1 .1 .1),
@@ -83,7 +84,7 @@ returns c =
     let a = s .args in
     let i = called (a .src) (a .options) (a .plane .now) (a .palette .now) (a .icc .now) (a .linked-icc .now) in (
       stream-answer i (s .pre .1 .0) (r .result) (c .format .result) (a .head) (a .len) (r .ensures) (c .format .ensures) (s .pre .1 .1 .0) (s .pre .1 .1 .1 .0),
-      stream-written (a .src) (a .options) (a .plane .now) (a .palette .now) (a .icc .now) (a .linked-icc .now) (a .buf .now) (w .last .1 .1 .1 .1 .1 .1 .1 .1 .0) (t .last .1 .1 .1 .1 .1 .0) (a .at) (a .head) (a .len) (k .result) (r .result)
+      stream-written i (a .buf .now) (w .last .1 .1 .1 .1 .1 .1 .1 .1 .0) (t .last .1 .1 .1 .1 .1 .0) (a .at) (a .head) (a .len) (k .result) (r .result)
           (s .pre .1 .0) (r .ensures) (k .ensures) (s .pre .1 .1 .0) (s .pre .1 .1 .1 .0) (s .pre .1 .1 .1 .1) (w .ensures) (t .ensures .1),
     )
 

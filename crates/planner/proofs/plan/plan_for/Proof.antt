@@ -1,10 +1,12 @@
+use mathlib.Core.Path.{sym, ap, _∙_}
 use borrow.Author.Needs.{needs}
 use Prim.Native.Nat.{_*_}
 use native.Mathlib.Omega.{arith}
 use lib.ListN.{length}
 use Rattle.leaves.specs.declared.error.Check.the-variants.{Passed, Refused}
 use Rattle.planner.specs.Calls.{called}
-use Rattle.planner.proofs.PlanLaws.{raw-is, head-is, tail-is, rle-is, checks-is, rle-no-tail, raw-fits, plan-stops, plan-is}
+use Rattle.planner.proofs.PlanLaws.{checks-is, raw-is, rle-no-tail, raw-fits, plan-stops, plan-is}
+use Rattle.planner.proofs.Unread.{planned-bare, tail-framed, head-tabled}
 use Rattle.planner.proofs.plan.plan_for.Statement.{statement}
 use Rattle.planner.proofs.plan.plan_for.Tie as tie
 
@@ -64,7 +66,7 @@ of-requires c κs =
     let d = c .before .before .before .before .bit-count in
     let raw = raw-is i (d .result) (s .result) (d .ensures) (s .ensures) in
     let t = c .before .tail in
-    let none = rle-no-tail i (c .rle-planned .result) (length (t .result .now)) (rle-is i (c .rle-planned .result) (c .rle-planned .ensures)) (tail-is i (t .result .now) (t .ensures)) in
+    let none = rle-no-tail i (c .rle-planned .result) (length (t .result .now)) (c .rle-planned .ensures ∙ sym (planned-bare i)) (ap length (t .ensures ∙ sym (tail-framed i))) in
     (c .before .before .before .before .before .head-len .ensures .1, (omega (arith, raw, raw-fits i passed), none))
 
 returns-2 : tie.Need-returns-2
@@ -80,7 +82,7 @@ returns-2 c =
     let t = c .before .before .tail in
     let p = c .before .rle-planned in
     plan-is i (c .of .result) (h .result) (s .result * a .src .height) (length (t .result .now)) (p .result) passed
-    (head-is i (h .result) (h .ensures .0)) raw (tail-is i (t .result .now) (t .ensures)) (rle-is i (p .result) (p .ensures)) (c .of .ensures)
+    (h .ensures .0 ∙ sym (head-tabled i)) raw (ap length (t .ensures ∙ sym (tail-framed i))) (p .ensures ∙ sym (planned-bare i)) (c .of .ensures)
 
 pub plan-for-spec : {M : Type 1} → statement M
 plan-for-spec =

@@ -3,13 +3,10 @@ use mathlib.Core.List.{[]}
 use Rattle.planner.specs.Calls.{called}
 use Rattle.planner.proofs.ModeLaws.{mask-mode, other-mode}
 use Rattle.format.specs.File.{Mode, depthIn}
-use mathlib.Core.Path.{refl, ap, _∙_}
+use mathlib.Core.Path.{ap}
 use borrow.Author.Needs.{needs}
 use Rattle.planner.proofs.sizes.bit_count.Statement.{statement}
 use Rattle.planner.proofs.sizes.bit_count.Tie as tie
-use Rattle.planner.proofs.sizes.bit_count.Reads as reads
-use Rattle.planner.proofs.sizes.bit_count.Lts as lts
-use Rattle.leaves.proofs.image.BmpPixelFormat.bits_per_pixel.Reads as bits-per-pixel-reads
 
 -- src/sizes.rt:82:9
 returns : tie.Need-returns

@@ -1,16 +1,11 @@
-use Rattle.planner.proofs.HeadWrites.{head-parts}
+use Rattle.planner.proofs.Unread.{head-parts}
 use native.Mathlib.Omega.{arith}
 use denote.Ref.{now}
-use mathlib.Core.Path.{_≡_, refl, sym, ap, _∙_}
 use mathlib.Core.List.{[]}
 use Rattle.planner.specs.Calls.{called}
 use borrow.Author.Needs.{needs}
 use Rattle.planner.proofs.sizes.head_len.Statement.{statement}
 use Rattle.planner.proofs.sizes.head_len.Tie as tie
-use Rattle.planner.proofs.sizes.head_len.Reads as reads
-use Rattle.planner.proofs.sizes.head_len.Lts as lts
-use Rattle.planner.proofs.sizes.rest_len.Reads as rest-len-reads
-use Rattle.planner.proofs.sizes.table_entries.Reads as table-entries-reads
 
 -- src/sizes.rt:311:5
 add-result : tie.Need-add-result
@@ -42,7 +37,7 @@ returns c =
     let a = c .before .before .before .args in
     let r = c .before .rest-len .ensures in
     let t = c .table-entries .ensures in
-    (omega (arith, head-parts (a .src) (a .options) (now (a .palette)) [] [], r .0, t .0), omega (arith, r .1, t .1))
+    (omega (arith, head-parts (called (a .src) (a .options) [] (now (a .palette)) [] []), r .0, t .0), omega (arith, r .1, t .1))
 
 pub head-len-spec : {M : Type 1} → statement M
 head-len-spec =

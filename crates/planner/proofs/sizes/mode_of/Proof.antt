@@ -3,15 +3,11 @@ use mathlib.Core.Path.{refl, sym, _∙_}
 use mathlib.Core.List.{[]}
 use Rattle.planner.specs.Calls.{called}
 use Rattle.planner.proofs.ModeLaws.{mode-flags}
-use Rattle.format.specs.File.{modeOf}
-use mathlib.Core.Bool.{Bool, true, false, cond}
-use mathlib.Core.Path.{_≡_, refl, sym, ap, _∙_}
+use mathlib.Core.Bool.{true, false}
+use mathlib.Core.Path.{refl, sym, _∙_}
 use borrow.Author.Needs.{needs}
 use Rattle.planner.proofs.sizes.mode_of.Statement.{statement}
 use Rattle.planner.proofs.sizes.mode_of.Tie as tie
-use Rattle.planner.proofs.sizes.mode_of.Reads as reads
-use Rattle.planner.proofs.sizes.mode_of.Lts as lts
-use Rattle.leaves.proofs.checks.profile_mode.Reads as profile-mode-reads
 
 -- src/sizes.rt:44:9
 returns : tie.Need-returns

@@ -2,9 +2,8 @@ use lib.IntN.{ℤ}
 use Rattle.format.specs.File.{calibrated, profiled, plain, headerSize}
 use mathlib.Core.Bool.{Bool, cond}
 use mathlib.Core.Path.{_≡_}
-use lib.ListN.{length}
 use borrow.Author.Needs.{needs, length-unmapped}
-use Prim.Native.Nat.{ℕ, _+_}
+use Prim.Native.Nat.{ℕ}
 use mathlib.Core.Bool.{true, false}
 use Rattle.planner.proofs.ModeLaws.{masked-rest, other-rest}
 use native.Mathlib.Omega.{arith}
@@ -14,11 +13,6 @@ use Rattle.planner.specs.Calls.{called, modeIs}
 use borrow.Author.Needs.{needs}
 use Rattle.planner.proofs.sizes.rest_len.Statement.{statement}
 use Rattle.planner.proofs.sizes.rest_len.Tie as tie
-use Rattle.planner.proofs.sizes.rest_len.Reads as reads
-use Rattle.planner.proofs.sizes.rest_len.Lts as lts
-use Rattle.leaves.proofs.bitfields.BmpBitfields.has_alpha.Reads as has-alpha-reads
-use Rattle.planner.proofs.sizes.is_rgb565.Reads as is-rgb565-reads
-use Rattle.planner.proofs.sizes.mode_of.Reads as mode-of-reads
 
 -- src/sizes.rt:288:9
 mode-of-requires : tie.Need-mode-of-requires

@@ -1,15 +1,11 @@
 use Rattle.planner.proofs.ModeLaws.{planned-by, plain-planned}
 use Rattle.format.specs.File.{masked, calibrated, profiled}
-use mathlib.Core.Path.{refl, sym, ap, _∙_}
+use mathlib.Core.Path.{sym, ap, _∙_}
 use mathlib.Core.List.{[]}
 use Rattle.planner.specs.Calls.{called, modeIs}
 use borrow.Author.Needs.{needs}
 use Rattle.planner.proofs.sizes.rle_planned.Statement.{statement}
 use Rattle.planner.proofs.sizes.rle_planned.Tie as tie
-use Rattle.planner.proofs.sizes.rle_planned.Reads as reads
-use Rattle.planner.proofs.sizes.rle_planned.Lts as lts
-use Rattle.planner.proofs.sizes.mode_of.Reads as mode-of-reads
-use Rattle.planner.proofs.sizes.wants_rle.Reads as wants-rle-reads
 
 -- src/sizes.rt:257:9
 mode-of-requires : tie.Need-mode-of-requires

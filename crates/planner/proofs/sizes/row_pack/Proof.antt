@@ -7,12 +7,6 @@ use Rattle.planner.specs.Calls.{called}
 use borrow.Author.Needs.{needs}
 use Rattle.planner.proofs.sizes.row_pack.Statement.{statement}
 use Rattle.planner.proofs.sizes.row_pack.Tie as tie
-use Rattle.planner.proofs.sizes.row_pack.Reads as reads
-use Rattle.planner.proofs.sizes.row_pack.Lts as lts
-use Rattle.leaves.proofs.image.BmpPixelFormat.bytes_per_pixel.Reads as bytes-per-pixel-reads
-use Rattle.planner.proofs.sizes.blue_first.Reads as blue-first-reads
-use Rattle.planner.proofs.sizes.plain_pack.Reads as plain-pack-reads
-use Rattle.rows.proofs.pack.MaskLayout.new.Reads as new-reads
 
 -- src/sizes.rt:129:13
 bytes-per-pixel-requires : tie.Need-bytes-per-pixel-requires

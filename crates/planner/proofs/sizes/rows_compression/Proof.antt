@@ -9,10 +9,6 @@ use Rattle.planner.specs.Calls.{called}
 use borrow.Author.Needs.{needs}
 use Rattle.planner.proofs.sizes.rows_compression.Statement.{statement}
 use Rattle.planner.proofs.sizes.rows_compression.Tie as tie
-use Rattle.planner.proofs.sizes.rows_compression.Reads as reads
-use Rattle.planner.proofs.sizes.rows_compression.Lts as lts
-use Rattle.leaves.proofs.bitfields.BmpBitfields.compression.Reads as compression-reads
-use Rattle.planner.proofs.sizes.is_rgb565.Reads as is-rgb565-reads
 
 -- src/sizes.rt:200:9
 compression-requires : tie.Need-compression-requires

@@ -9,10 +9,6 @@ use Rattle.planner.specs.Calls.{called}
 use borrow.Author.Needs.{needs}
 use Rattle.planner.proofs.sizes.rows_format.Statement.{statement}
 use Rattle.planner.proofs.sizes.rows_format.Tie as tie
-use Rattle.planner.proofs.sizes.rows_format.Reads as reads
-use Rattle.planner.proofs.sizes.rows_format.Lts as lts
-use Rattle.leaves.proofs.bitfields.BmpBitfields.has_alpha.Reads as has-alpha-reads
-use Rattle.leaves.proofs.encoder.plain_token.Reads as plain-token-reads
 
 -- src/sizes.rt:214:12
 has-alpha-requires : tie.Need-has-alpha-requires

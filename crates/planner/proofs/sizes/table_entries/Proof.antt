@@ -1,17 +1,12 @@
 use Rattle.planner.proofs.ModeLaws.{entries-indexed, entries-direct, entries-small}
 use native.Mathlib.Omega.{arith}
 use denote.Ref.{now}
-use mathlib.Core.Path.{_≡_, refl, sym, ap, _∙_}
+use mathlib.Core.Path.{sym, _∙_}
 use mathlib.Core.List.{[]}
 use Rattle.planner.specs.Calls.{called}
 use borrow.Author.Needs.{needs}
 use Rattle.planner.proofs.sizes.table_entries.Statement.{statement}
 use Rattle.planner.proofs.sizes.table_entries.Tie as tie
-use Rattle.planner.proofs.sizes.table_entries.Reads as reads
-use Rattle.planner.proofs.sizes.table_entries.Lts as lts
-use Rattle.leaves.proofs.encoder.written_palette_entries.Reads as written-palette-entries-reads
-use Rattle.leaves.proofs.image.BmpPixelFormat.bits_per_pixel.Reads as bits-per-pixel-reads
-use Rattle.leaves.proofs.image.BmpPixelFormat.is_indexed.Reads as is-indexed-reads
 
 -- src/sizes.rt:276:8
 is-indexed-requires : tie.Need-is-indexed-requires

@@ -1,15 +1,12 @@
 use Rattle.format.specs.File.{Mode, modeOf, tailOf}
 use mathlib.Core.Bool.{Bool, cond}
 use denote.Ref.{now}
-use mathlib.Core.Path.{refl, sym, ap, _∙_}
+use mathlib.Core.Path.{sym, ap, _∙_}
 use mathlib.Core.List.{[]}
 use Rattle.planner.specs.Calls.{called, modeIs}
 use borrow.Author.Needs.{needs}
 use Rattle.planner.proofs.sizes.tail.Statement.{statement}
 use Rattle.planner.proofs.sizes.tail.Tie as tie
-use Rattle.planner.proofs.sizes.tail.Reads as reads
-use Rattle.planner.proofs.sizes.tail.Lts as lts
-use Rattle.planner.proofs.sizes.mode_of.Reads as mode-of-reads
 
 -- src/sizes.rt:62:9
 mode-of-requires : tie.Need-mode-of-requires

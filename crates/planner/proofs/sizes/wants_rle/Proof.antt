@@ -2,14 +2,11 @@ use borrow.Author.Tests.{not-true, not-false}
 use Rattle.leaves.proofs.Tests.{and-first, and-second, not-of-true}
 use Rattle.planner.proofs.ModeLaws.{and-true}
 use Rattle.format.specs.File.{coded}
-use mathlib.Core.Bool.{Bool, not, _&&_}
-use mathlib.Core.Path.{sym, ap, _∙_}
+use mathlib.Core.Bool.{not, _&&_}
+use mathlib.Core.Path.{sym, _∙_}
 use borrow.Author.Needs.{needs}
 use Rattle.planner.proofs.sizes.wants_rle.Statement.{statement}
 use Rattle.planner.proofs.sizes.wants_rle.Tie as tie
-use Rattle.planner.proofs.sizes.wants_rle.Reads as reads
-use Rattle.planner.proofs.sizes.wants_rle.Lts as lts
-use Rattle.planner.proofs.sizes.is_coded.Reads as is-coded-reads
 
 -- src/sizes.rt:244:9
 returns : tie.Need-returns
