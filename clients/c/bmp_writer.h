@@ -1,0 +1,123 @@
+/* A BMP writer whose every byte is proved. Link with libcapi.a (rt staticlib capi).
+ *
+ * The two calls read a picture from memory that the caller lends and never allocate. Every pointer goes with its
+ * length in bytes; NULL with length 0 is allowed. `out` overlaps no input. A bool is 0 or 1. */
+#ifndef BMP_WRITER_H
+#define BMP_WRITER_H
+
+#include <stdbool.h>
+#include <stddef.h>
+#include <stdint.h>
+
+#ifdef __cplusplus
+extern "C" {
+#endif
+
+/* The layout of the lent plane. Rows go from the top, `stride` bytes from one to the next. */
+enum bmp_source_format {
+    BMP_RGBA = 0,     /* 4 bytes: red, green, blue, alpha */
+    BMP_RGB24 = 1,    /* 3 bytes: red, green, blue */
+    BMP_BGRA = 2,     /* 4 bytes: blue, green, red, alpha */
+    BMP_BGR24 = 3,    /* 3 bytes: blue, green, red */
+    BMP_RGB555 = 4,   /* a word, low byte first: red, green, blue from bits 10, 5, 0 */
+    BMP_RGB565 = 5,   /* a word, low byte first: red, green, blue from bits 11, 5, 0 */
+    BMP_PAL8 = 6,     /* an index byte, stored in 8 bits; the palette is needed, here and below */
+    BMP_INDEXED4 = 7, /* an index byte, of which the low 4 bits are stored */
+    BMP_INDEXED2 = 8, /* an index byte, of which the low 2 bits are stored */
+    BMP_INDEXED1 = 9  /* an index byte, of which the low bit is stored */
+};
+
+/* What a file was written as. */
+enum bmp_written_format {
+    BMP_WRITTEN_RGB32 = 0,
+    BMP_WRITTEN_RGB24 = 1,
+    BMP_WRITTEN_RGB16_RGB = 2,
+    BMP_WRITTEN_RGB16_BITFIELDS = 3,
+    BMP_WRITTEN_INDEXED8 = 4,
+    BMP_WRITTEN_INDEXED4 = 5,
+    BMP_WRITTEN_INDEXED2 = 6,
+    BMP_WRITTEN_RLE8 = 7,
+    BMP_WRITTEN_RLE4 = 8,
+    BMP_WRITTEN_INDEXED1 = 9,
+    BMP_WRITTEN_BITFIELDS = 10,
+    BMP_WRITTEN_ALPHA_BITFIELDS = 11
+};
+
+/* Why a call is refused; the first that applies is answered, 255 before all others. */
+enum bmp_refusal {
+    BMP_OK = 0,
+    BMP_ZERO_DIMENSION = 1,      /* width or height is 0 */
+    BMP_DIMENSION_TOO_LARGE = 2, /* width or height over 2,147,483,647 */
+    BMP_PALETTE_MISSING = 3,     /* indexed format, palette absent */
+    BMP_PALETTE_NOT_QUADS = 4,   /* indexed format, palette bytes not a multiple of 4 */
+    BMP_SEVERAL_MODES = 5,       /* more than one of masks, calibrated colour, profile */
+    BMP_MASK_DEPTH = 6,          /* masks: depth is neither 16 nor 32 */
+    BMP_MASK_ABOVE_DEPTH = 7,    /* masks: a mask has a bit above the depth */
+    BMP_MASK_NOT_ONE_RUN = 8,    /* masks: a mask's ones are not one run */
+    BMP_MASK_OVERLAP = 9,        /* masks: a mask shares a bit with an earlier one */
+    BMP_NO_COLOUR_MASK = 10,     /* masks: red, green and blue masks all 0 */
+    BMP_MASK_SOURCE = 11,        /* masks: source is not RGBA, RGB24, BGRA or BGR24 */
+    BMP_PLANE_TOO_SHORT = 12,    /* plane length below stride x height */
+    BMP_STRIDE_TOO_SHORT = 13,   /* stride below width x bytes of a pixel */
+    BMP_FILE_TOO_LARGE = 14,     /* no RLE planned, and the file is over 4,294,967,295 bytes */
+    BMP_BUFFER_TOO_SHORT = 15,   /* writing: offset past the end, or fewer than bound bytes after it */
+    BMP_STREAM_OVER_BUDGET = 16, /* writing: RLE planned, plain file too large, stream not under budget */
+    BMP_UNKNOWN_FORMAT = 255     /* `format` is none of those listed; this interface's own number */
+};
+
+/* 76 bytes. BMP_OPTIONS_DEFAULT has the defaults in brackets. */
+typedef struct {
+    bool top_down;               /* rows from the top, height negative, no RLE [false] */
+    bool minimal_palette;        /* a colour table as long as the palette, at least one entry [false] */
+    bool rle;                    /* try RLE for plain PAL8 and INDEXED4; used where it is shorter [true] */
+    bool embed_icc;              /* write the profile `icc` if it is given [true] */
+    bool has_bitfields;          /* mask mode: the next two fields count [false] */
+    bool has_calibrated;         /* calibrated colour: endpoints and gamma count [false] */
+    uint16_t bitfields_bpp;      /* 16 or 32 bits a cell [0] */
+    uint32_t bitfields_masks[4]; /* red, green, blue, alpha; alpha may be 0 [0] */
+    uint32_t rendering_intent;   /* bV5Intent of a file with a profile, any number [4, LCS_GM_IMAGES] */
+    int32_t endpoints[9];        /* bV4Endpoints: red, green, blue, each x, y, z, as FXPT2DOT30 [0] */
+    uint32_t gamma[3];           /* bV4GammaRed, Green, Blue, as 16.16 [0] */
+} bmp_options;
+
+/* The defaults of the original encoder. */
+#define BMP_OPTIONS_DEFAULT \
+    { false, false, true, true, false, false, 0, { 0, 0, 0, 0 }, 4, { 0, 0, 0, 0, 0, 0, 0, 0, 0 }, { 0, 0, 0 } }
+
+/* 24 bytes. */
+typedef struct {
+    uint32_t format;     /* enum bmp_source_format */
+    uint32_t width;      /* cells in a row */
+    uint32_t height;     /* rows */
+    bool has_palette;    /* the palette counts; an absent one's bytes are ignored, here and below */
+    bool has_icc;        /* the embedded profile counts, if embed_icc is on */
+    bool has_linked_icc; /* the linked profile counts, and is taken before the embedded one */
+    uint64_t stride;     /* bytes from one row of the plane to the next */
+} bmp_source;
+
+typedef struct {
+    uint64_t bytes;   /* bytes appended, or the bound; 0 with a refusal */
+    uint32_t refusal; /* enum bmp_refusal */
+    uint32_t format;  /* enum bmp_written_format; 0 with a refusal and from the size query */
+} bmp_answer;
+
+/* Appends the file at `offset` of `out`, which has `out_len` bytes. With a refusal no byte of `out` has changed;
+ * with a file none outside the bytes answered. A palette entry is four bytes: red, green, blue, alpha. */
+bmp_answer bmp_encode_into(bmp_source source, bmp_options options, const uint8_t *plane, size_t plane_len,
+                           const uint8_t *palette, size_t palette_len, const uint8_t *icc, size_t icc_len,
+                           const uint8_t *linked_icc, size_t linked_icc_len, uint8_t *out, size_t out_len,
+                           size_t offset);
+
+/* How many bytes after the offset `bmp_encode_into` asks for with the same arguments; no file is longer. */
+bmp_answer bmp_encoded_size_bound(bmp_source source, bmp_options options, const uint8_t *plane, size_t plane_len,
+                                  const uint8_t *palette, size_t palette_len, const uint8_t *icc, size_t icc_len,
+                                  const uint8_t *linked_icc, size_t linked_icc_len);
+
+/* 0, or 6 to 10. */
+uint32_t bmp_check_masks(uint16_t bpp, uint32_t red, uint32_t green, uint32_t blue, uint32_t alpha);
+
+#ifdef __cplusplus
+}
+#endif
+
+#endif

@@ -1,0 +1,40 @@
+/* Writes a grid of 200 x 200 shades to grid.bmp:
+ *   rt staticlib capi
+ *   cc -o example clients/c/example.c -Iclients/c target/staticlib/libcapi.a && ./example */
+#include "bmp_writer.h"
+
+#include <stdio.h>
+#include <stdlib.h>
+
+enum { SIDE = 200 };
+
+int main(void) {
+    static uint8_t plane[SIDE * SIDE];
+    static uint8_t palette[256 * 4];
+    for (int y = 0; y < SIDE; y++)
+        for (int x = 0; x < SIDE; x++) plane[y * SIDE + x] = (uint8_t)((x - 100) * (x - 100) / 50 + y / 8);
+    for (int k = 0; k < 256; k++) {
+        palette[4 * k] = (uint8_t)k;
+        palette[4 * k + 1] = (uint8_t)(255 - k);
+        palette[4 * k + 2] = 128;
+        palette[4 * k + 3] = 255;
+    }
+
+    bmp_source source = { BMP_PAL8, SIDE, SIDE, true, false, false, SIDE };
+    bmp_options options = BMP_OPTIONS_DEFAULT;
+    bmp_answer bound =
+        bmp_encoded_size_bound(source, options, plane, sizeof plane, palette, sizeof palette, NULL, 0, NULL, 0);
+    if (bound.refusal != BMP_OK) return (int)bound.refusal;
+
+    uint8_t *out = malloc(bound.bytes);
+    if (out == NULL) return 1;
+    bmp_answer answer = bmp_encode_into(source, options, plane, sizeof plane, palette, sizeof palette, NULL, 0,
+                                        NULL, 0, out, bound.bytes, 0);
+    if (answer.refusal != BMP_OK) return (int)answer.refusal;
+
+    FILE *file = fopen("grid.bmp", "wb");
+    if (file == NULL || fwrite(out, 1, answer.bytes, file) != answer.bytes || fclose(file) != 0) return 1;
+    printf("format %u, %llu bytes\n", answer.format, (unsigned long long)answer.bytes);
+    free(out);
+    return 0;
+}

@@ -1,0 +1,111 @@
+-- From the writer's promises to the interface's.
+use mathlib.Core.Path.{_≡_, refl, sym, ap, subst, _∙_}
+use mathlib.Core.List.{List, [], _∷_}
+use Prim.Native.Nat.{ℕ, _+_, _-_, _≤_}
+use native.Mathlib.Omega.{arith}
+use lib.ListN.{length, take, drop, getD}
+use Rattle.leaves.specs.declared.encoder.EncodeSource.{EncodeSource}
+use Rattle.leaves.specs.declared.encoder.EncodedBmpFormat.{EncodedBmpFormat}
+use Rattle.leaves.specs.declared.image.BmpPixelFormat.{BmpPixelFormat}
+use Rattle.leaves.specs.declared.options.EncodeOptions.{EncodeOptions}
+use Rattle.leaves.specs.Refusals.{firstOf}
+use Rattle.format.specs.Demand.{Demand3}
+use Rattle.format.specs.File.{maxFile}
+use Rattle.format.specs.Input.{Input}
+use Rattle.format.specs.Refusals.{planRows, writeRows}
+use Rattle.planner.specs.declared.encoder.Encoded.{Encoded}
+use Rattle.planner.specs.declared.encoder.Encoded.the-variants as encoded
+use Rattle.planner.specs.declared.plan.SizeBound.{SizeBound}
+use Rattle.planner.specs.declared.plan.SizeBound.the-variants as sized
+use Rattle.planner.specs.Answers.{encodedNumber, encodedBytes, encodedFormat, boundNumber, boundBytes, Written, Sized}
+use Rattle.planner.specs.Calls.{called}
+use Rattle.capi.specs.declared.BmpAnswer.{BmpAnswer}
+use Rattle.capi.specs.declared.BmpOptions.{BmpOptions}
+use Rattle.capi.specs.declared.BmpSource.{BmpSource}
+use Rattle.capi.specs.declared.Layout.{Layout}
+use Rattle.capi.specs.declared.Layout.the-variants.{Known, Unknown}
+use lib.Seq.{getD-append-add}
+use Rattle.capi.specs.Interface.{layouts, layoutAt, formatsNumber, sourceOf, optionsOf, encodedAnswer, boundAnswer, unknownFormat, Encodes, Bounds, EncodePromise, BoundPromise}
+
+-- the fields of an answer
+refusal-is : (r : Encoded) → encodedAnswer r .refusal ≡ encodedNumber r
+refusal-is (encoded.File format bytes) = refl
+refusal-is (encoded.Refused why) = refl
+
+bytes-is : (r : Encoded) → encodedAnswer r .bytes ≡ encodedBytes r
+bytes-is (encoded.File format bytes) = refl
+bytes-is (encoded.Refused why) = refl
+
+format-is : (r : Encoded) → encodedAnswer r .format ≡ formatsNumber (encodedFormat r)
+format-is (encoded.File format bytes) = refl
+format-is (encoded.Refused why) = refl
+
+-- what is written is what the interface promises
+encodes : (i : Input) (offset : ℕ) (was later : List ℕ) (r : Encoded) (a : BmpAnswer) → Written i offset was later r → a ≡ encodedAnswer r → Encodes i offset was later a
+encodes i offset was later r a w e =
+    let number : a .refusal ≡ encodedNumber r = ap (λ (b : BmpAnswer). b .refusal) e ∙ refusal-is r in
+    let bytes : a .bytes ≡ encodedBytes r = ap (λ (b : BmpAnswer). b .bytes) e ∙ bytes-is r in
+    record {
+      number = number ∙ w .number;
+      bytes = bytes ∙ w .bytes;
+      format = ap (λ (b : BmpAnswer). b .format) e ∙ format-is r ∙ ap formatsNumber (w .format);
+      buffer = w .buffer;
+      shown = λ z. subst (λ (n : ℕ). Demand3 i (take n (drop offset later))) (sym bytes) (w .shown (sym number ∙ z));
+    }
+
+bounds : (i : Input) (r : SizeBound) (a : BmpAnswer) → Sized i r → a ≡ boundAnswer r → Bounds i a
+bounds i (sized.Bytes bytes) a s e =
+    record {
+      number = ap (λ (b : BmpAnswer). b .refusal) e ∙ s .number;
+      bytes = ap (λ (b : BmpAnswer). b .bytes) e ∙ s .bytes;
+      no-format = ap (λ (b : BmpAnswer). b .format) e;
+    }
+bounds i (sized.Refused why) a s e =
+    record {
+      number = ap (λ (b : BmpAnswer). b .refusal) e ∙ s .number;
+      bytes = ap (λ (b : BmpAnswer). b .bytes) e ∙ s .bytes;
+      no-format = ap (λ (b : BmpAnswer). b .format) e;
+    }
+
+-- a format that is listed
+module _ (l : Layout) (f : BmpPixelFormat) (source : BmpSource) (options : BmpOptions) (plane palette icc linked : List ℕ) (src : EncodeSource) (chosen : EncodeOptions)
+    (known : Known f ≡ l) (es : src ≡ sourceOf source f) (eo : chosen ≡ optionsOf options) where
+  pub encode-known : (offset : ℕ) (was later : List ℕ) (r : Encoded) (a : BmpAnswer) → Written (called src chosen plane palette icc linked) offset was later r
+      → a ≡ encodedAnswer r → EncodePromise l source options plane palette icc linked offset was later a
+  encode-known offset was later r a w e =
+      subst (λ (k : Layout). EncodePromise k source options plane palette icc linked offset was later a) known
+      (encodes (called (sourceOf source f) (optionsOf options) plane palette icc linked) offset was later r a
+      (subst (λ (i : Input). Written i offset was later r) (λ z. called (es z) (eo z) plane palette icc linked) w) e)
+
+  pub bound-known : (r : SizeBound) (a : BmpAnswer) → Sized (called src chosen plane palette icc linked) r → a ≡ boundAnswer r
+      → BoundPromise l source options plane palette icc linked a
+  bound-known r a s e =
+      subst (λ (k : Layout). BoundPromise k source options plane palette icc linked a) known
+      (bounds (called (sourceOf source f) (optionsOf options) plane palette icc linked) r a
+      (subst (λ (i : Input). Sized i r) (λ z. called (es z) (eo z) plane palette icc linked) s) e)
+
+-- and one that is not
+pub encode-unknown : (l : Layout) (source : BmpSource) (options : BmpOptions) (plane palette icc linked : List ℕ) (offset : ℕ) (was : List ℕ) → Unknown ≡ l
+    → EncodePromise l source options plane palette icc linked offset was was unknownFormat
+encode-unknown l source options plane palette icc linked offset was e =
+    subst (λ (k : Layout). EncodePromise k source options plane palette icc linked offset was was unknownFormat) e (refl, refl)
+
+pub bound-unknown : (l : Layout) (source : BmpSource) (options : BmpOptions) (plane palette icc linked : List ℕ) → Unknown ≡ l
+    → BoundPromise l source options plane palette icc linked unknownFormat
+bound-unknown l source options plane palette icc linked e = subst (λ (k : Layout). BoundPromise k source options plane palette icc linked unknownFormat) e refl
+
+-- numbers past the list
+pub layout-past : (n : ℕ) → 10 ≤ n → Unknown ≡ layoutAt n
+unfolding layoutAt layouts
+layout-past n h =
+    let past : n ≡ 10 + (n - 10) = omega arith in
+    sym (ap (λ (k : ℕ). getD layouts k Unknown) past ∙ getD-append-add layouts [] (n - 10) Unknown)
+
+-- a number that is none of 0 to 9
+next : (n k : ℕ) → k ≤ n → (n ≡ k → ⊥) → k + 1 ≤ n
+next n k h f = omega (arith, f)
+
+pub none-listed : (n : ℕ) → (n ≡ 0 → ⊥) → (n ≡ 1 → ⊥) → (n ≡ 2 → ⊥) → (n ≡ 3 → ⊥) → (n ≡ 4 → ⊥) → (n ≡ 5 → ⊥) → (n ≡ 6 → ⊥) → (n ≡ 7 → ⊥) → (n ≡ 8 → ⊥) → (n ≡ 9 → ⊥)
+    → Unknown ≡ layoutAt n
+none-listed n a b c d e f g h i j =
+    layout-past n (next n 9 (next n 8 (next n 7 (next n 6 (next n 5 (next n 4 (next n 3 (next n 2 (next n 1 (next n 0 (omega arith) a) b) c) d) e) f) g) h) i) j)

@@ -1,0 +1,129 @@
+-- The interface's numbers and structs as the writer's, and what its functions promise.
+use Prim.Native.Nat.{ℕ}
+use mathlib.Core.Path.{_≡_}
+use mathlib.Core.List.{List, [], _∷_}
+use lib.ListN.{length, take, drop, getD}
+use Rattle.leaves.specs.declared.bitfields.BmpBitfields.{BmpBitfields}
+use Rattle.leaves.specs.declared.encoder.EncodeSource.{EncodeSource}
+use Rattle.leaves.specs.declared.encoder.EncodedBmpFormat.{EncodedBmpFormat}
+use Rattle.leaves.specs.declared.encoder.EncodedBmpFormat.the-variants as written
+use Rattle.leaves.specs.declared.error.Check.{Check}
+use Rattle.leaves.specs.declared.image.BmpPixelFormat.{BmpPixelFormat}
+use Rattle.leaves.specs.declared.image.BmpPixelFormat.the-variants as source
+use Rattle.leaves.specs.declared.options.EncodeOptions.{EncodeOptions}
+use Rattle.leaves.specs.Refusals.{numberOf, firstOf, firstNumber}
+use Rattle.format.specs.Demand.{Demand3}
+use Rattle.format.specs.File.{maxFile}
+use Rattle.format.specs.Input.{Input}
+use Rattle.format.specs.Refusals.{planRows, writeRows}
+use Rattle.planner.specs.declared.encoder.Encoded.{Encoded}
+use Rattle.planner.specs.declared.encoder.Encoded.the-variants as encoded
+use Rattle.planner.specs.declared.plan.SizeBound.{SizeBound}
+use Rattle.planner.specs.declared.plan.SizeBound.the-variants as sized
+use Rattle.planner.specs.Answers.{bytesFor, formatFor, laterFor, boundFor}
+use Rattle.planner.specs.Calls.{called}
+use Rattle.capi.specs.declared.Layout.{Layout}
+use Rattle.capi.specs.declared.Layout.the-variants.{Known, Unknown}
+use Rattle.capi.specs.declared.BmpSource.{BmpSource}
+use Rattle.capi.specs.declared.BmpOptions.{BmpOptions}
+use Rattle.capi.specs.declared.BmpAnswer.{BmpAnswer}
+
+-- the formats that a caller names, 0 to 9; any other number is none
+unfoldable pub layouts : List Layout
+layouts =
+    Known source.Rgba
+    ∷ Known source.Rgb24
+    ∷ Known source.Bgra
+    ∷ Known source.Bgr24
+    ∷ Known source.Rgb555
+    ∷ Known source.Rgb565
+    ∷ Known source.Pal8
+    ∷ Known source.Indexed4
+    ∷ Known source.Indexed2
+    ∷ Known source.Indexed1
+    ∷ []
+
+unfoldable pub layoutAt : ℕ → Layout
+layoutAt n = getD layouts n Unknown
+
+-- the formats that are answered
+abbrev pub formatNumber : EncodedBmpFormat → ℕ
+formatNumber written.Rgb32 = 0
+formatNumber written.Rgb24 = 1
+formatNumber written.Rgb16Rgb = 2
+formatNumber written.Rgb16Bitfields = 3
+formatNumber written.Indexed8 = 4
+formatNumber written.Indexed4 = 5
+formatNumber written.Indexed2 = 6
+formatNumber written.Rle8 = 7
+formatNumber written.Rle4 = 8
+formatNumber written.Indexed1 = 9
+formatNumber written.Bitfields = 10
+formatNumber written.AlphaBitfields = 11
+
+-- 0 where no format is answered
+abbrev pub formatsNumber : List EncodedBmpFormat → ℕ
+formatsNumber [] = 0
+formatsNumber (f ∷ fs) = formatNumber f
+
+abbrev pub sourceOf : BmpSource → BmpPixelFormat → EncodeSource
+sourceOf s format =
+    record {
+      format = format;
+      width = s .width;
+      height = s .height;
+      stride = s .stride;
+      «has_palette» = s .«has_palette»;
+      «has_icc» = s .«has_icc»;
+      «has_linked_icc» = s .«has_linked_icc»;
+    }
+
+abbrev pub optionsOf : BmpOptions → EncodeOptions
+optionsOf o =
+    record {
+      «top_down» = o .«top_down»;
+      «minimal_palette» = o .«minimal_palette»;
+      rle = o .rle;
+      «has_bitfields» = o .«has_bitfields»;
+      bitfields = record { bpp = o .«bitfields_bpp»; masks = o .«bitfields_masks» };
+      «embed_icc» = o .«embed_icc»;
+      «rendering_intent» = o .«rendering_intent»;
+      «has_calibrated_rgb» = o .«has_calibrated»;
+      «calibrated_rgb» = record { endpoints = o .endpoints; gamma = o .gamma };
+    }
+
+-- the writer's answers as numbers
+abbrev pub encodedAnswer : Encoded → BmpAnswer
+encodedAnswer (encoded.File format bytes) = record { bytes = bytes; refusal = 0; format = formatNumber format }
+encodedAnswer (encoded.Refused why) = record { bytes = 0; refusal = numberOf why; format = 0 }
+
+abbrev pub boundAnswer : SizeBound → BmpAnswer
+boundAnswer (sized.Bytes bytes) = record { bytes = bytes; refusal = 0; format = 0 }
+boundAnswer (sized.Refused why) = record { bytes = 0; refusal = numberOf why; format = 0 }
+
+-- the interface's own refusal
+abbrev pub unknownFormat : BmpAnswer
+unknownFormat = record { bytes = 0; refusal = 255; format = 0 }
+
+-- of a format that is listed: number, bytes, format, later buffer, and demand 3 of the appended bytes
+pub record Encodes (i : Input) (offset : ℕ) (was later : List ℕ) (answer : BmpAnswer) : Type 0 where
+  pub number : answer .refusal ≡ firstNumber (writeRows maxFile i (length was) offset)
+  pub bytes : answer .bytes ≡ bytesFor (firstOf (writeRows maxFile i (length was) offset)) i
+  pub format : answer .format ≡ formatsNumber (formatFor (firstOf (writeRows maxFile i (length was) offset)) i)
+  pub buffer : later ≡ laterFor (firstOf (writeRows maxFile i (length was) offset)) i offset was
+  pub shown : answer .refusal ≡ 0 → Demand3 i (take (answer .bytes) (drop offset later))
+
+pub record Bounds (i : Input) (answer : BmpAnswer) : Type 0 where
+  pub number : answer .refusal ≡ firstNumber (planRows maxFile i)
+  pub bytes : answer .bytes ≡ boundFor (firstOf (planRows maxFile i)) i
+  pub no-format : answer .format ≡ 0
+
+-- the promises: 255 before all else, and nothing changed
+abbrev pub EncodePromise : Layout → BmpSource → BmpOptions → List ℕ → List ℕ → List ℕ → List ℕ → ℕ → List ℕ → List ℕ → BmpAnswer → Type 0
+EncodePromise (Known f) source options plane palette icc linked offset was later answer =
+    Encodes (called (sourceOf source f) (optionsOf options) plane palette icc linked) offset was later answer
+EncodePromise Unknown source options plane palette icc linked offset was later answer = (answer ≡ unknownFormat) × (later ≡ was)
+
+abbrev pub BoundPromise : Layout → BmpSource → BmpOptions → List ℕ → List ℕ → List ℕ → List ℕ → BmpAnswer → Type 0
+BoundPromise (Known f) source options plane palette icc linked answer = Bounds (called (sourceOf source f) (optionsOf options) plane palette icc linked) answer
+BoundPromise Unknown source options plane palette icc linked answer = answer ≡ unknownFormat

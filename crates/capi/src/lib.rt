@@ -1,0 +1,239 @@
+// The writer for callers from C: structs and numbers instead of enums. `clients/c/bmp_writer.h` declares the
+// same.
+ghost use mathlib.Core.Path.{_≡_};
+ghost use mathlib.Core.List.{[], _∷_};
+ghost use Rattle.leaves.specs.Masks.{bitfieldsRows};
+ghost use Rattle.leaves.specs.Refusals.{firstNumber};
+ghost use Rattle.capi.specs.Interface.{layoutAt, formatNumber, sourceOf, optionsOf, encodedAnswer, boundAnswer, EncodePromise, BoundPromise};
+use leaves::bitfields::BmpBitfields;
+use leaves::bitfields::validate;
+use leaves::encoder::EncodeSource;
+use leaves::encoder::EncodedBmpFormat;
+use leaves::image::BmpPixelFormat;
+use leaves::options::CalibratedRgb;
+use leaves::options::EncodeOptions;
+use planner::encoder::Encoded;
+use planner::encoder::encode_into;
+use planner::plan::SizeBound;
+use planner::plan::encoded_size_bound;
+
+// 76 bytes.
+#[repr(C)]
+pub struct BmpOptions {
+    pub top_down: bool,
+    pub minimal_palette: bool,
+    pub rle: bool,
+    pub embed_icc: bool,
+    pub has_bitfields: bool,
+    pub has_calibrated: bool,
+    pub bitfields_bpp: u16,
+    // Red, green, blue, alpha.
+    pub bitfields_masks: [u32; 4],
+    pub rendering_intent: u32,
+    pub endpoints: [i32; 9],
+    pub gamma: [u32; 3],
+}
+
+// 24 bytes.
+#[repr(C)]
+pub struct BmpSource {
+    // 0 Rgba, 1 Rgb24, 2 Bgra, 3 Bgr24, 4 Rgb555, 5 Rgb565, 6 Pal8, 7 Indexed4, 8 Indexed2, 9 Indexed1.
+    pub format: u32,
+    pub width: u32,
+    pub height: u32,
+    pub has_palette: bool,
+    pub has_icc: bool,
+    pub has_linked_icc: bool,
+    pub stride: u64,
+}
+
+#[repr(C)]
+pub struct BmpAnswer {
+    // Bytes appended, or the bound; 0 with a refusal.
+    pub bytes: u64,
+    // 0, or the refusal's number; 255 for a format that is not listed.
+    pub refusal: u32,
+    // 0 Rgb32, 1 Rgb24, 2 Rgb16Rgb, 3 Rgb16Bitfields, 4 Indexed8, 5 Indexed4, 6 Indexed2, 7 Rle8, 8 Rle4,
+    // 9 Indexed1, 10 Bitfields, 11 AlphaBitfields; 0 with a refusal and from the size query.
+    pub format: u32,
+}
+
+// What a caller's format number means.
+pub enum Layout {
+    Known(BmpPixelFormat),
+    Unknown,
+}
+
+fn layout_at(format: u32) -> Layout
+    ensures { λ r. ⌜ r ≡ layoutAt format ⌝ }
+{
+    match format {
+        0 => Layout::Known(BmpPixelFormat::Rgba),
+        1 => Layout::Known(BmpPixelFormat::Rgb24),
+        2 => Layout::Known(BmpPixelFormat::Bgra),
+        3 => Layout::Known(BmpPixelFormat::Bgr24),
+        4 => Layout::Known(BmpPixelFormat::Rgb555),
+        5 => Layout::Known(BmpPixelFormat::Rgb565),
+        6 => Layout::Known(BmpPixelFormat::Pal8),
+        7 => Layout::Known(BmpPixelFormat::Indexed4),
+        8 => Layout::Known(BmpPixelFormat::Indexed2),
+        9 => Layout::Known(BmpPixelFormat::Indexed1),
+        _ => Layout::Unknown,
+    }
+}
+
+fn format_number(format: EncodedBmpFormat) -> u32
+    ensures { λ r. ⌜ r ≡ formatNumber format ⌝ }
+{
+    match format {
+        EncodedBmpFormat::Rgb32 => 0,
+        EncodedBmpFormat::Rgb24 => 1,
+        EncodedBmpFormat::Rgb16Rgb => 2,
+        EncodedBmpFormat::Rgb16Bitfields => 3,
+        EncodedBmpFormat::Indexed8 => 4,
+        EncodedBmpFormat::Indexed4 => 5,
+        EncodedBmpFormat::Indexed2 => 6,
+        EncodedBmpFormat::Rle8 => 7,
+        EncodedBmpFormat::Rle4 => 8,
+        EncodedBmpFormat::Indexed1 => 9,
+        EncodedBmpFormat::Bitfields => 10,
+        EncodedBmpFormat::AlphaBitfields => 11,
+    }
+}
+
+fn source_of(source: BmpSource, format: BmpPixelFormat) -> EncodeSource
+    ensures { λ r. ⌜ r ≡ sourceOf source format ⌝ }
+{
+    EncodeSource {
+        format,
+        width: source.width,
+        height: source.height,
+        stride: source.stride as usize,
+        has_palette: source.has_palette,
+        has_icc: source.has_icc,
+        has_linked_icc: source.has_linked_icc,
+    }
+}
+
+fn options_of(options: BmpOptions) -> EncodeOptions
+    ensures { λ r. ⌜ r ≡ optionsOf options ⌝ }
+{
+    let masks = options.bitfields_masks;
+    let bitfields = BmpBitfields {
+        bpp: options.bitfields_bpp,
+        masks,
+    };
+    let endpoints = options.endpoints;
+    let gamma = options.gamma;
+    let calibrated_rgb = CalibratedRgb { endpoints, gamma };
+    EncodeOptions {
+        top_down: options.top_down,
+        minimal_palette: options.minimal_palette,
+        rle: options.rle,
+        has_bitfields: options.has_bitfields,
+        bitfields,
+        embed_icc: options.embed_icc,
+        rendering_intent: options.rendering_intent,
+        has_calibrated_rgb: options.has_calibrated,
+        calibrated_rgb,
+    }
+}
+
+// An answer of the writing call as numbers.
+fn encode_answer(answer: Encoded) -> BmpAnswer
+    ensures { λ r. ⌜ r ≡ encodedAnswer answer ⌝ }
+{
+    match answer {
+        Encoded::File(format, bytes) => BmpAnswer {
+            bytes: bytes as u64,
+            refusal: 0,
+            format: format_number(format),
+        },
+        Encoded::Refused(why) => BmpAnswer {
+            bytes: 0,
+            refusal: why.number(),
+            format: 0,
+        },
+    }
+}
+
+fn bound_answer(answer: SizeBound) -> BmpAnswer
+    ensures { λ r. ⌜ r ≡ boundAnswer answer ⌝ }
+{
+    match answer {
+        SizeBound::Bytes(bytes) => BmpAnswer {
+            bytes: bytes as u64,
+            refusal: 0,
+            format: 0,
+        },
+        SizeBound::Refused(why) => BmpAnswer {
+            bytes: 0,
+            refusal: why.number(),
+            format: 0,
+        },
+    }
+}
+
+// Appends the file at the offset of `out`, or changes nothing and says why.
+#[no_mangle]
+pub extern "C" fn bmp_encode_into<'a>(
+    source: BmpSource,
+    options: BmpOptions,
+    plane: &[u8],
+    palette: &[u8],
+    icc: &'a [u8],
+    linked_icc: &'a [u8],
+    out: &mut [u8],
+    offset: usize,
+) -> BmpAnswer
+    ensures { λ r. ⌜ EncodePromise (layoutAt (source .format)) source options (now (plane .entry)) (now (palette .entry)) (now (icc .entry)) (now («linked_icc» .entry)) offset (now (out .entry)) (now (out .exit)) r ⌝ }
+{
+    let layout = layout_at(source.format);
+    let Layout::Known(format) = layout else {
+        return BmpAnswer {
+            bytes: 0,
+            refusal: 255,
+            format: 0,
+        };
+    };
+    let src = source_of(source, format);
+    let chosen = options_of(options);
+    let answer = encode_into(src, chosen, plane, palette, icc, linked_icc, out, offset);
+    encode_answer(answer)
+}
+
+// How many bytes `bmp_encode_into` asks for.
+#[no_mangle]
+pub extern "C" fn bmp_encoded_size_bound<'a>(
+    source: BmpSource,
+    options: BmpOptions,
+    plane: &[u8],
+    palette: &[u8],
+    icc: &'a [u8],
+    linked_icc: &'a [u8],
+) -> BmpAnswer
+    ensures { λ r. ⌜ BoundPromise (layoutAt (source .format)) source options (now (plane .entry)) (now (palette .entry)) (now (icc .entry)) (now («linked_icc» .entry)) r ⌝ }
+{
+    let layout = layout_at(source.format);
+    let Layout::Known(format) = layout else {
+        return BmpAnswer {
+            bytes: 0,
+            refusal: 255,
+            format: 0,
+        };
+    };
+    let src = source_of(source, format);
+    let chosen = options_of(options);
+    let answer = encoded_size_bound(src, chosen, plane, palette, icc, linked_icc);
+    bound_answer(answer)
+}
+
+// 0, or 6 to 10.
+#[no_mangle]
+pub extern "C" fn bmp_check_masks(bpp: u16, red: u32, green: u32, blue: u32, alpha: u32) -> u32
+    ensures { λ r. ⌜ r ≡ firstNumber (bitfieldsRows bpp (red ∷ green ∷ blue ∷ alpha ∷ [])) ⌝ }
+{
+    let masks = [red, green, blue, alpha];
+    let check = validate(bpp, masks);
+    check.number()
+}
