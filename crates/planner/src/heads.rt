@@ -119,6 +119,7 @@ fn v5_fields(intent: u32, profile_data: u32, profile_size: u32) -> [u8; 16]
     ]
 }
 
+// The file header, at its place.
 pub fn write_file_header(buf: &mut [u8], at: usize, file_size: u32, pixel_offset: u32)
     requires { ⌜ at + 14 ≤ length (now buf) ⌝ }
     ensures { λ _. ⌜ now (buf .exit) ≡ put (now (buf .entry)) at (fileHeader «file_size» «pixel_offset») ⌝ }
@@ -127,6 +128,7 @@ pub fn write_file_header(buf: &mut [u8], at: usize, file_size: u32, pixel_offset
     put_slice(buf, at, &head);
 }
 
+// The first 40 bytes of the info header, at their place.
 pub fn write_info_header(buf: &mut [u8], at: usize, h: InfoHeader)
     requires { ⌜ at + 40 ≤ length (now buf) ⌝ }
     ensures { λ _. ⌜ now (buf .exit) ≡ put (now (buf .entry)) at (infoHeader (h .«header_size») (h .width) (h .«stored_height») (h .«bit_count») (h .compression) (h .«image_size») (h .«x_pels») (h .«y_pels») (h .«clr_used»)) ⌝ }
@@ -135,6 +137,7 @@ pub fn write_info_header(buf: &mut [u8], at: usize, h: InfoHeader)
     put_slice(buf, at, &head);
 }
 
+// The last 16 bytes of a 124-byte header, at their place.
 pub fn write_v5_fields(buf: &mut [u8], at: usize, intent: u32, profile_data: u32, profile_size: u32)
     requires { ⌜ at + 16 ≤ length (now buf) ⌝ }
     ensures { λ _. ⌜ now (buf .exit) ≡ put (now (buf .entry)) at (v5Fields intent «profile_data» «profile_size») ⌝ }

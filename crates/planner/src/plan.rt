@@ -46,6 +46,7 @@ pub struct Sizes {
     pub bound: usize,
 }
 
+// What a call will write, decided before the first byte is written; or why it writes nothing.
 pub enum Plan {
     Ready(Sizes),
     Refused(Refusal),
@@ -57,7 +58,7 @@ pub enum SizeBound {
     Refused(Refusal),
 }
 
-// 11.
+// Whether 11 lets the source pass.
 fn is_mask_source(format: BmpPixelFormat) -> bool
     ensures { λ r. ⌜ r ≡ not (maskSource format) ⌝ }
 {
@@ -167,6 +168,7 @@ impl Sizes {
     }
 }
 
+// 1 to 14, and the sizes of what they let pass.
 pub fn plan_for<'a>(
     src: EncodeSource,
     options: EncodeOptions,

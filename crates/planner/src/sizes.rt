@@ -35,6 +35,7 @@ pub enum Mode {
     Plain,
 }
 
+// The mode that a call asks for.
 pub fn mode_of(src: EncodeSource, options: EncodeOptions) -> Mode
     ensures { λ r. ⌜ modeIs r ≡ modeOf (called src options [] [] [] []) ⌝ }
 {
@@ -102,6 +103,7 @@ fn plain_pack(format: BmpPixelFormat) -> RowPack
     }
 }
 
+// Whether blue comes first in the source.
 fn blue_first(format: BmpPixelFormat) -> bool
     ensures { λ r. ⌜ r ≡ blueFirst format ⌝ }
 {
@@ -139,6 +141,7 @@ pub fn row_pack(src: EncodeSource, options: EncodeOptions) -> RowPack
     plain_pack(format)
 }
 
+// The one plain source with a 108-byte header.
 pub fn is_rgb565(format: BmpPixelFormat) -> bool
     ensures { λ r. ⌜ r ≡ isRgb565 format ⌝ }
 {
@@ -219,6 +222,7 @@ pub fn rows_format(src: EncodeSource, options: EncodeOptions) -> EncodedBmpForma
     plain_token(format)
 }
 
+// The sources that have a coding.
 fn is_coded(format: BmpPixelFormat) -> bool
     ensures { λ r. ⌜ r ≡ coded format ⌝ }
 {
