@@ -1,0 +1,128 @@
+//! The port, through its C interface (clients/c/bmp_writer.h).
+
+#[repr(C)]
+#[derive(Clone, Copy, Debug, Default)]
+pub struct Options {
+    pub top_down: bool,
+    pub minimal_palette: bool,
+    pub rle: bool,
+    pub embed_icc: bool,
+    pub has_bitfields: bool,
+    pub has_calibrated: bool,
+    pub bitfields_bpp: u16,
+    pub bitfields_masks: [u32; 4],
+    pub rendering_intent: u32,
+    pub endpoints: [i32; 9],
+    pub gamma: [u32; 3],
+}
+
+#[repr(C)]
+#[derive(Clone, Copy, Debug, Default)]
+pub struct Source {
+    pub format: u32,
+    pub width: u32,
+    pub height: u32,
+    pub has_palette: bool,
+    pub has_icc: bool,
+    pub has_linked_icc: bool,
+    pub stride: u64,
+}
+
+#[repr(C)]
+#[derive(Clone, Copy, Debug, PartialEq, Eq)]
+pub struct Answer {
+    pub bytes: u64,
+    pub refusal: u32,
+    pub format: u32,
+}
+
+const _: () = assert!(size_of::<Options>() == 76 && size_of::<Source>() == 24 && size_of::<Answer>() == 16);
+
+/// The lent slices.
+#[derive(Clone, Copy)]
+pub struct Lent<'a> {
+    pub plane: &'a [u8],
+    pub palette: &'a [u8],
+    pub icc: &'a [u8],
+    pub linked_icc: &'a [u8],
+}
+
+unsafe extern "C" {
+    fn bmp_encode_into(
+        source: Source,
+        options: Options,
+        plane: *const u8,
+        plane_len: usize,
+        palette: *const u8,
+        palette_len: usize,
+        icc: *const u8,
+        icc_len: usize,
+        linked_icc: *const u8,
+        linked_icc_len: usize,
+        out: *mut u8,
+        out_len: usize,
+        offset: usize,
+    ) -> Answer;
+    fn bmp_encoded_size_bound(
+        source: Source,
+        options: Options,
+        plane: *const u8,
+        plane_len: usize,
+        palette: *const u8,
+        palette_len: usize,
+        icc: *const u8,
+        icc_len: usize,
+        linked_icc: *const u8,
+        linked_icc_len: usize,
+    ) -> Answer;
+    fn bmp_check_masks(bpp: u16, red: u32, green: u32, blue: u32, alpha: u32) -> u32;
+}
+
+/// NULL for an empty slice: the interface allows it.
+fn start(bytes: &[u8]) -> *const u8 {
+    if bytes.is_empty() { std::ptr::null() } else { bytes.as_ptr() }
+}
+
+pub fn encode_into(source: Source, options: Options, lent: Lent<'_>, out: &mut [u8], offset: usize) -> Answer {
+    let Lent { plane, palette, icc, linked_icc } = lent;
+    let target = if out.is_empty() { std::ptr::null_mut() } else { out.as_mut_ptr() };
+    unsafe {
+        bmp_encode_into(
+            source,
+            options,
+            start(plane),
+            plane.len(),
+            start(palette),
+            palette.len(),
+            start(icc),
+            icc.len(),
+            start(linked_icc),
+            linked_icc.len(),
+            target,
+            out.len(),
+            offset,
+        )
+    }
+}
+
+pub fn size_bound(source: Source, options: Options, lent: Lent<'_>) -> Answer {
+    let Lent { plane, palette, icc, linked_icc } = lent;
+    unsafe {
+        bmp_encoded_size_bound(
+            source,
+            options,
+            start(plane),
+            plane.len(),
+            start(palette),
+            palette.len(),
+            start(icc),
+            icc.len(),
+            start(linked_icc),
+            linked_icc.len(),
+        )
+    }
+}
+
+pub fn check_masks(bpp: u16, masks: [u32; 4]) -> u32 {
+    unsafe { bmp_check_masks(bpp, masks[0], masks[1], masks[2], masks[3]) }
+}
