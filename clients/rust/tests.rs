@@ -1,0 +1,53 @@
+//! Tests of the Rust wrapper: run by clients/test.sh.
+mod bmp_writer;
+use bmp_writer::*;
+
+const M12: [u8; 62] = [
+    0x42, 0x4D, 0x3E, 0, 0, 0, 0, 0, 0, 0, 0x3A, 0, 0, 0, 0x28, 0, 0, 0, 5, 0, 0, 0, 1, 0, 0, 0, 1, 0, 8, 0, 1, 0, 0, 0, 0, 0, 0, 0, 0x13,
+    0x0B, 0, 0, 0x13, 0x0B, 0, 0, 1, 0, 0, 0, 0, 0, 0, 0, 0, 0, 0, 0, 5, 7, 0, 1,
+];
+
+fn picture(format: BmpPixelFormat, width: u32, stride: usize, plane: &[u8]) -> EncodeSource<'_> {
+    EncodeSource { format, width, height: 1, stride, plane, palette: None, icc: None }
+}
+
+fn sevens<'a>(plane: &'a [u8], palette: &'a [u8]) -> EncodeSource<'a> {
+    EncodeSource { palette: Some(palette), ..picture(BmpPixelFormat::Pal8, plane.len() as u32, plane.len(), plane) }
+}
+
+#[test]
+fn the_specifications_file() {
+    let options = EncodeOptions::new().with_minimal_palette(true);
+    let src = sevens(&[7; 5], &[]);
+    assert_eq!(encoded_size_bound(&src, &options), Ok(78));
+    assert_eq!(encode(&src, &options), Ok((M12.to_vec(), EncodedBmpFormat::Rle8)));
+    let tie = encode(&sevens(&[7; 4], &[]), &options).unwrap();
+    assert_eq!((tie.0.len(), tie.1), (62, EncodedBmpFormat::Indexed8));
+}
+
+#[test]
+fn other_bytes_stay() {
+    let options = EncodeOptions::new().with_minimal_palette(true);
+    let mut out = [0xAA; 100];
+    assert_eq!(encode_into(&sevens(&[7; 5], &[]), &options, &mut out, 22), Ok((62, EncodedBmpFormat::Rle8)));
+    assert_eq!((&out[22..84], out[..22].iter().all(|b| *b == 0xAA), out[84..].iter().all(|b| *b == 0xAA)), (&M12[..], true, true));
+    let mut short = [0xAA; 99];
+    let refused = encode_into(&sevens(&[7; 5], &[]), &options, &mut short, 22).unwrap_err();
+    assert_eq!((refused.number, short.iter().all(|b| *b == 0xAA)), (15, true));
+}
+
+#[test]
+fn refusals() {
+    let number = |src: EncodeSource, options: &EncodeOptions| encode(&src, options).unwrap_err().number;
+    let default = EncodeOptions::new();
+    assert_eq!(number(picture(BmpPixelFormat::Rgba, 0, 0, &[]), &default), 1);
+    assert_eq!(number(picture(BmpPixelFormat::Pal8, 1, 1, &[0]), &default), 3);
+    assert_eq!(number(sevens(&[0], &[1, 2, 3]), &default), 4);
+    assert_eq!(number(picture(BmpPixelFormat::Rgba, 1, 4, &[0; 3]), &default), 12);
+    assert_eq!(number(picture(BmpPixelFormat::Rgba, 1, 3, &[0; 3]), &default), 13);
+    let masks = BmpBitfields { bpp: 16, r: 0xF800, g: 0x7E0, b: 0x1F, a: 0 };
+    let several = default.clone().with_bitfields(masks).with_linked_icc(vec![1]);
+    assert_eq!(number(picture(BmpPixelFormat::Rgba, 1, 4, &[0; 4]), &several), 5);
+    assert_eq!(masks.validate(), Ok(()));
+    assert_eq!(BmpBitfields { r: 0xA00, ..masks }.validate().unwrap_err().to_string(), "8: masks: a mask's ones are not one run");
+}
