@@ -1,65 +1,33 @@
 """Opens files of every kind with programs that know nothing of this writer, and compares the pixels.
 
-    rt staticlib capi
-    python3 bench/readers/readers.py target/staticlib/libcapi.a
+    bash clients/build.sh
+    BMP_WRITER_LIBRARY=target/clients/libbmp_writer.so python3 bench/readers/readers.py
 
-Needs gcc, and of netpbm, ImageMagick, ffmpeg (commands) and Pillow (module) those that are to be asked. Prints a table:
+Needs netpbm, ImageMagick, ffmpeg (commands) and Pillow (module). Prints a table:
 reader by kind, 'agrees', 'refuses' or 'differs' with the first pixel that does.
 """
-import ctypes
 import os
 import shutil
 import subprocess
 import sys
 import tempfile
 
-U8P = ctypes.c_char_p
-
-
-class Options(ctypes.Structure):
-    _fields_ = [('top_down', ctypes.c_bool), ('minimal_palette', ctypes.c_bool), ('rle', ctypes.c_bool),
-                ('embed_icc', ctypes.c_bool), ('has_bitfields', ctypes.c_bool), ('has_calibrated', ctypes.c_bool),
-                ('bitfields_bpp', ctypes.c_uint16), ('bitfields_masks', ctypes.c_uint32 * 4),
-                ('rendering_intent', ctypes.c_uint32), ('endpoints', ctypes.c_int32 * 9),
-                ('gamma', ctypes.c_uint32 * 3)]
-
-
-class Source(ctypes.Structure):
-    _fields_ = [('format', ctypes.c_uint32), ('width', ctypes.c_uint32), ('height', ctypes.c_uint32),
-                ('has_palette', ctypes.c_bool), ('has_icc', ctypes.c_bool), ('has_linked_icc', ctypes.c_bool),
-                ('stride', ctypes.c_uint64)]
-
-
-class Answer(ctypes.Structure):
-    _fields_ = [('bytes', ctypes.c_uint64), ('refusal', ctypes.c_uint32), ('format', ctypes.c_uint32)]
-
+sys.path.insert(0, os.path.join(os.path.dirname(os.path.abspath(__file__)), '../../clients/python'))
+from bmp_writer import BYTES_PER_PIXEL, FORMATS, Bitfields, CalibratedRgb, EncodeOptions, encode
 
 RGBA, RGB24, BGRA, BGR24, RGB555, RGB565, PAL8, INDEXED4, INDEXED2, INDEXED1 = range(10)
-BYTES = [4, 3, 4, 3, 2, 2, 1, 1, 1, 1]
-WRITTEN = ['Rgb32', 'Rgb24', 'Rgb16Rgb', 'Rgb16Bitfields', 'Indexed8', 'Indexed4', 'Indexed2', 'Rle8', 'Rle4',
-           'Indexed1', 'Bitfields', 'AlphaBitfields']
 WIDTH, HEIGHT = 21, 5
 PALETTE = bytes(v for k in range(256) for v in (k * 7 % 256, 255 - k, k * 3 % 256, 255))
 ICC = bytes(range(60))
-
-
-def library(archive):
-    shared = os.path.join(tempfile.mkdtemp(), 'libbmp.so')
-    subprocess.run(['gcc', '-shared', '-o', shared, '-Wl,--whole-archive', archive, '-Wl,--no-whole-archive'], check=True)
-    lib = ctypes.CDLL(shared)
-    lib.bmp_encode_into.restype = Answer
-    slices = [U8P, ctypes.c_size_t] * 4
-    lib.bmp_encode_into.argtypes = [Source, Options] + slices + [U8P, ctypes.c_size_t, ctypes.c_size_t]
-    return lib
 
 
 def cell(format, x, y):
     """The bytes of a pixel in the plane: smooth, so that runs occur, with all channels in use."""
     r, g, b, a = (x * 12) % 256, (y * 50 + x) % 256, (x * y * 5) % 256, 255
     if format in (RGBA, RGB24):
-        return bytes((r, g, b, a)[:BYTES[format]])
+        return bytes((r, g, b, a)[:BYTES_PER_PIXEL[format]])
     if format in (BGRA, BGR24):
-        return bytes((b, g, r, a)[:BYTES[format]])
+        return bytes((b, g, r, a)[:BYTES_PER_PIXEL[format]])
     if format in (RGB555, RGB565):
         word = (x * 1489 + y * 977) % (32768 if format == RGB555 else 65536)
         return bytes((word % 256, word // 256))
@@ -80,27 +48,15 @@ def expected(format, x, y):
     return tuple(PALETTE[4 * p[0]:4 * p[0] + 3]), (8, 8, 8)
 
 
-def encode(lib, format, palette=PALETTE, icc=None, linked=None, **chosen):
-    options = Options(rle=True, embed_icc=True, rendering_intent=4)
-    bits = None
-    for name, value in chosen.items():
-        if name == 'masks':
-            options.has_bitfields, options.bitfields_bpp = True, value[0]
-            options.bitfields_masks = (ctypes.c_uint32 * 4)(*value[1])
-            bits = tuple(min(8, bin(m).count('1')) for m in value[1][:3])
-        elif name == 'calibrated':
-            options.has_calibrated = True
-            options.endpoints = (ctypes.c_int32 * 9)(*([1 << 28] * 9))
-            options.gamma = (ctypes.c_uint32 * 3)(*([0x10000] * 3))
-        else:
-            setattr(options, name, value)
+def file_of(format, palette=PALETTE, icc=None, linked=None, masks=None, calibrated=False, **chosen):
+    """The file, what it was written as, and how many top bits of each channel count where masks say so."""
+    bits = masks and tuple(min(8, bin(m).count('1')) for m in masks[1][:3])
+    options = EncodeOptions(bitfields=masks and Bitfields(*masks),
+                            calibrated_rgb=CalibratedRgb([1 << 28] * 9, [0x10000] * 3) if calibrated else None, **chosen)
     plane = b''.join(cell(format, x, y) for y in range(HEIGHT) for x in range(WIDTH))
-    source = Source(format, WIDTH, HEIGHT, format >= PAL8, icc is not None, linked is not None, WIDTH * BYTES[format])
-    out = ctypes.create_string_buffer(65536)
-    a = lib.bmp_encode_into(source, options, plane, len(plane), palette, len(palette), icc or b'', len(icc or b''),
-                            linked or b'', len(linked or b''), ctypes.cast(out, U8P), 65536, 0)
-    assert a.refusal == 0, a.refusal
-    return out.raw[:a.bytes], WRITTEN[a.format], bits
+    data, written = encode(plane, WIDTH, HEIGHT, FORMATS[format], palette=palette if format >= PAL8 else None, icc=icc,
+                           linked_icc=linked, options=options)
+    return data, written, bits
 
 
 KINDS = [
@@ -199,11 +155,10 @@ def verdict(shown, format, bits):
 
 
 def main():
-    lib = library(sys.argv[1])
     print('| kind | written as | ' + ' | '.join(name for name, _ in READERS) + ' |')
     print('|---' * (2 + len(READERS)) + '|')
     for name, format, chosen in KINDS:
-        data, written, bits = encode(lib, format, **chosen)
+        data, written, bits = file_of(format, **chosen)
         with tempfile.NamedTemporaryFile(suffix='.bmp', delete=False) as file:
             file.write(data)
         print(f'| {name} | {written} | ' + ' | '.join(verdict(read(file.name), format, bits) for _, read in READERS) + ' |')
