@@ -1,0 +1,115 @@
+// Whole files, and the checksum that `cksum` prints.
+ghost use Rattle.io.specs.Counts.{Counts};
+use crate::words::part;
+
+pub enum FileRead {
+    // So many bytes, which is the whole file.
+    Whole(usize),
+    TooLong,
+    Failed,
+}
+
+// Reads a file into buf.
+pub fn read_file(path: &[u8], buf: &mut [u8]) -> FileRead {
+    let fd = os::open_read(path);
+    if fd < 0 {
+        return FileRead::Failed;
+    }
+    let n = io::read_full(fd, buf);
+    let mut more = [0u8; 1];
+    let got = libc::read(fd, &mut more);
+    libc::close(fd);
+    if got < 0 {
+        return FileRead::Failed;
+    }
+    if got > 0 {
+        return FileRead::TooLong;
+    }
+    FileRead::Whole(n)
+}
+
+// The name beside `path` that a file has while it is written; its length, or 0 where it is too long.
+fn name_while_written(path: &[u8], name: &mut [u8]) -> usize {
+    let ending = b".part";
+    let n = path.len();
+    if n > 4000 {
+        return 0;
+    }
+    if name.len() < n + 5 {
+        return 0;
+    }
+    let mut i = 0;
+    while i < n {
+        name[i] = path[i];
+        i += 1;
+    }
+    let mut j = 0;
+    while j < 5 {
+        name[n + j] = ending[j];
+        j += 1;
+    }
+    n + 5
+}
+
+fn write_new(path: &[u8], bytes: &[u8]) -> bool {
+    let fd = os::create(path);
+    if fd < 0 {
+        return false;
+    }
+    let whole = io::write_all(fd, bytes);
+    let closed = libc::close(fd);
+    if whole && closed == 0 {
+        return true;
+    }
+    os::unlink(path);
+    false
+}
+
+fn write_then_rename(path: &[u8], while_written: &[u8], bytes: &[u8]) -> bool {
+    if !write_new(while_written, bytes) {
+        return false;
+    }
+    if os::rename(while_written, path) == 0 {
+        return true;
+    }
+    os::unlink(while_written);
+    false
+}
+
+// Writes a file, or leaves the one of that name as it is.
+pub fn save(path: &[u8], bytes: &[u8]) -> bool {
+    let mut space = io::buffer();
+    let name: &mut [u8] = &mut space;
+    let n = name_while_written(path, name);
+    write_then_rename(path, part(name, 0, n), bytes)
+}
+
+// POSIX's cksum: the polynomial 04C11DB7, high bit first, over the bytes and then their number, inverted.
+fn with_byte(sum: u32, byte: u8) -> u32 {
+    let mut r = sum ^ ((byte as u32) << 24);
+    let mut i: usize = 0;
+    while i < 8 {
+        let high = r & 0x8000_0000;
+        r = r << 1;
+        if high != 0 {
+            r = r ^ 0x04C1_1DB7;
+        }
+        i += 1;
+    }
+    r
+}
+
+pub fn checksum(bytes: &[u8]) -> u32 {
+    let mut sum = 0;
+    let mut i = 0;
+    while i < bytes.len() {
+        sum = with_byte(sum, bytes[i]);
+        i += 1;
+    }
+    let mut left = bytes.len();
+    while left > 0 {
+        sum = with_byte(sum, (left % 256) as u8);
+        left = left / 256;
+    }
+    !sum
+}
