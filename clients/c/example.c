@@ -1,4 +1,4 @@
-/* Writes a grid of 200 x 200 shades to grid.bmp:
+/* Writes a smile-shaped surface of 200 x 200 shades to grid.bmp:
  *   rt staticlib capi
  *   cc -o example clients/c/example.c -Iclients/c target/staticlib/libcapi.a && ./example */
 #include "bmp_writer.h"
@@ -8,15 +8,18 @@
 
 enum { SIDE = 200 };
 
+/* Red, green and blue of every 64th palette entry, from dark violet to yellow. */
+static const int stops[5][3] = { { 68, 1, 84 }, { 59, 82, 139 }, { 33, 145, 140 }, { 94, 201, 98 }, { 253, 231, 37 } };
+
 int main(void) {
     static uint8_t plane[SIDE * SIDE];
     static uint8_t palette[256 * 4];
     for (int y = 0; y < SIDE; y++)
-        for (int x = 0; x < SIDE; x++) plane[y * SIDE + x] = (uint8_t)((x - 100) * (x - 100) / 50 + y / 8);
+        for (int x = 0; x < SIDE; x++)
+            plane[y * SIDE + x] = (uint8_t)((x - 110) * (x - 110) * 153 / (121 * (60 + y)) + y / 4);
     for (int k = 0; k < 256; k++) {
-        palette[4 * k] = (uint8_t)k;
-        palette[4 * k + 1] = (uint8_t)(255 - k);
-        palette[4 * k + 2] = 128;
+        for (int c = 0; c < 3; c++)
+            palette[4 * k + c] = (uint8_t)((stops[k / 64][c] * (64 - k % 64) + stops[k / 64 + 1][c] * (k % 64)) / 64);
         palette[4 * k + 3] = 255;
     }
 

@@ -1,4 +1,7 @@
-"""Tests of the Python module: run by clients/test.sh."""
+"""Tests of the Python module, and of the program beside it: run by clients/test.sh."""
+import os
+import subprocess
+import tempfile
 import unittest
 
 import bmp_writer
@@ -53,6 +56,33 @@ class Tests(unittest.TestCase):
             encode(b"", -1, 1, "Pal8")
         with self.assertRaises(ValueError):
             encode(b"", 2 ** 32, 1, "Pal8")
+
+    def test_the_program_writes_the_same_files(self):
+        program = os.path.abspath(os.environ["BMP_WRITER_PROGRAM"])
+        plane, palette, profile = bytes(range(240)), bytes(range(40)), b"profile"
+        masks = Bitfields(32, (0x3FF00000, 0xFFC00, 0x3FF, 0xC0000000))
+        gauges = CalibratedRgb([1, -2, 3, -4, 5, 6, 7, 8, -(2 ** 31)], [9, 10, 2 ** 32 - 1])
+        cases = (
+            ("Pal8", 9, 5, ["--palette", "palette"], EncodeOptions()),
+            ("Pal8", 9, 5, ["--palette", "palette", "--top-down", "--minimal-palette"], EncodeOptions(top_down=True, minimal_palette=True)),
+            ("Indexed4", 20, 2, ["--palette", "palette", "--no-rle"], EncodeOptions(rle=False)),
+            ("Rgb24", 5, 3, ["--icc", "profile", "--rendering-intent", "8"], EncodeOptions(rendering_intent=8)),
+            ("Bgr24", 5, 3, ["--icc", "profile", "--no-embed-icc"], EncodeOptions(embed_icc=False)),
+            ("Rgba", 5, 3, ["--bitfields", "32,0x3FF00000,0xFFC00,0x3FF,0xC0000000"], EncodeOptions(bitfields=masks)),
+            ("Rgb565", 5, 3, ["--calibrated-rgb", "1,-2,3,-4,5,6,7,8,-2147483648,9,10,0xFFFFFFFF"], EncodeOptions(calibrated_rgb=gauges)),
+        )
+        with tempfile.TemporaryDirectory() as folder:
+            for name, content in (("plane", plane), ("palette", palette), ("profile", profile)):
+                with open(os.path.join(folder, name), "wb") as file:
+                    file.write(content)
+            for form, width, height, words, options in cases:
+                given = {"palette": palette} if "--palette" in words else {"icc": profile} if "--icc" in words else {}
+                expected, written = encode(plane, width, height, form, options=options, **given)
+                words = ["--plane", "plane", "--format", form.lower(), "--width", str(width), "--height", str(height)] + words
+                said = subprocess.run([program] + words + ["--out", "out.bmp"], cwd=folder, capture_output=True, text=True).stdout
+                with open(os.path.join(folder, "out.bmp"), "rb") as file:
+                    self.assertEqual(file.read(), expected)
+                self.assertTrue(said.startswith(f"out.bmp: {written}, {len(expected)} bytes, cksum "), said)
 
 
 unittest.main()
