@@ -1,8 +1,12 @@
 pub mod AllRows
+pub mod Cells
 pub mod MaskCells
+pub mod Nibbles
 pub mod PackLaws
 pub mod RleBlocks
 pub mod RleBytes
 pub mod Scans
 pub mod StreamPlaces
 pub mod Streams
+pub mod WordCells
+pub mod Words

@@ -18,7 +18,7 @@ use Rattle.leaves.specs.Sizes.{hasTable}
 use Rattle.rows.specs.Packing.{digits, packedByte, packed}
 use Rattle.rows.specs.StoredRows.{padded}
 use Rattle.leaves.proofs.ListLaws.{length-tab, getD-tab, length-cat}
-use Rattle.leaves.proofs.Puts.{put-append, put-sets, length-put, add-two, add-three}
+use Rattle.leaves.proofs.Puts.{put-append, put-sets, length-put, add-two}
 
 -- what holds of the depths with a colour table: a byte has a whole number of cells
 pub record Depth (d : ℕ) : Type 0 where
@@ -129,10 +129,6 @@ pub padded-full : (n : ℕ) (bytes : List ℕ) → n ≡ length bytes → padded
 unfolding padded
 padded-full n bytes e = let z : n - length bytes ≡ 0 = omega arith in rw z (append-nil bytes)
 
--- three and four stores in a row
+-- three stores in a row
 pub stores3 : (d : List ℕ) (o p q r : ℕ) → o + 3 ≤ length d → set (set (set d o p) (o + 1) q) (o + 2) r ≡ put d o (p ∷ q ∷ r ∷ [])
 stores3 d o p q r h = simp (add-one, add-two) (put-sets d o (p ∷ q ∷ r ∷ []) h)
-
-pub stores4 : (d : List ℕ) (o p q r t : ℕ) → o + 4 ≤ length d
-    → set (set (set (set d o p) (o + 1) q) (o + 2) r) (o + 3) t ≡ put d o (p ∷ q ∷ r ∷ t ∷ [])
-stores4 d o p q r t h = simp (add-one, add-two, add-three) (put-sets d o (p ∷ q ∷ r ∷ t ∷ []) h)

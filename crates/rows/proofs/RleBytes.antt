@@ -13,17 +13,12 @@ use lib.Seq.{getD-take, getD-drop}
 use Rattle.rows.specs.declared.rle.Block.{Block}
 use Rattle.rows.specs.declared.rle.Block.the-variants.{Pair, Absolute}
 use Rattle.leaves.specs.Put.{put}
-use Rattle.leaves.specs.Sizes.{hasTable}
 use Rattle.rows.specs.Packing.{digits, packedByte, packed}
-use Rattle.rows.specs.RleCodes.{depthOf, cells, runLength, gatherLength, blockAt, bytes, size, width, codes}
+use Rattle.rows.specs.RleCodes.{cells, runLength, gatherLength, blockAt, bytes, size, width, codes}
 use Rattle.leaves.proofs.ListLaws.{tab-ext}
 use Rattle.leaves.proofs.Puts.{put-append, put-cons, put-nil}
 use Rattle.rows.proofs.RleBlocks.{choose-cases, sound-at, length-bytes, codes-at}
 use Rattle.rows.proofs.Scans.{cell-at, length-cells}
-
-pub depth-table : (four : Bool) → hasTable (depthOf four) ≡ true
-depth-table true = refl
-depth-table false = refl
 
 -- ---- data
 

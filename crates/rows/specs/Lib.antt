@@ -2,3 +2,4 @@ pub mod Packing
 pub mod RleCodes
 pub mod StoredRows
 pub mod Stream
+pub mod Words

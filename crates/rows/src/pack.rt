@@ -1,16 +1,19 @@
 // How a source row becomes a stored row (the Rust's encoder.rs, section on pixel packing). Each packer
 // writes one whole stored row, padding included, whatever the buffer held before.
 ghost use mathlib.Core.Path.{_≡_};
-ghost use mathlib.Core.Bool.{true};
+ghost use mathlib.Core.Bool.{true, false};
+ghost use mathlib.Core.List.{[], _∷_, _++_};
 ghost use mathlib.Core.Logic.{_⊎_};
-ghost use Prim.Native.Nat.{_+_, _*_, _^_, _<_, _≤_};
+ghost use Prim.Native.Nat.{_+_, _*_, _%_, _^_, _<_, _≤_};
 ghost use lib.ListN.{length, getD};
+ghost use Rattle.leaves.specs.Bytes.{le32};
+ghost use Rattle.leaves.specs.Lists.{tab, cat};
 ghost use Rattle.leaves.specs.Masks.{ShiftLen};
 ghost use Rattle.leaves.specs.Put.{put};
 ghost use Rattle.leaves.specs.Sizes.{rowStride, hasTable};
 ghost use Rattle.rows.specs.Packing.{packedByte, packed};
 ghost use Rattle.rows.specs.declared.pack.RowPack.the-variants.{Bgra32, Bgr24, Words16, Masks};
-ghost use Rattle.rows.specs.StoredRows.{field, maskWord, storedRow, packBits, packBytes, LayoutOk, PackOk, storedRows};
+ghost use Rattle.rows.specs.StoredRows.{cell24, cell32, field, maskWord, storedRow, packBits, packBytes, LayoutOk, PackOk, storedRows};
 use leaves::bitfields::MaskShiftLen;
 use leaves::bitfields::mask_shift_len;
 use leaves::bitfields::quantise;
@@ -72,6 +75,52 @@ fn packed_byte(src: &[u8], bpp: u16, i: usize) -> u8
     byte as u8
 }
 
+// Two indices of 4 bits, the first one high.
+fn nibbles(high: u8, low: u8) -> u8
+    ensures { λ r. ⌜ r ≡ high % 16 * 16 + low % 16 ⌝ }
+{
+    high % 16 * 16 + low % 16
+}
+
+// Sixteen bytes of indices packed to 4 bits, from byte i on. By way of a local array it is vector code.
+fn pack_sixteen(src: &[u8], i: usize, dst: &mut [u8], at: usize)
+    requires { ⌜ i * 2 + 32 ≤ length (now src) ⌝ }
+    requires { ⌜ at + 16 ≤ length (now dst) ⌝ }
+    ensures { λ _. ⌜ now (dst .exit) ≡ put (now (dst .entry)) at (tab (λ k. packedByte 4 (λ x. getD (now (src .entry)) x 0) (i + k)) 16) ⌝ }
+{
+    let mut bytes = [0u8; 16];
+    let mut j = 0;
+    while j < 16 {
+        let x = (i + j) * 2;
+        bytes[j] = nibbles(src[x], src[x + 1]);
+        j += 1;
+    }
+    let mut k = 0;
+    while k < 16 {
+        dst[at + k] = bytes[k];
+        k += 1;
+    }
+}
+
+// The first n bytes of indices packed to 4 bits.
+fn pack_nibbles(src: &[u8], n: usize, dst: &mut [u8], at: usize)
+    requires { ⌜ n < 2 ^ 40 ⌝ }
+    requires { ⌜ at + n ≤ length (now dst) ⌝ }
+    ensures { λ _. ⌜ now (dst .exit) ≡ put (now (dst .entry)) at (packed 4 (now (src .entry)) n) ⌝ }
+{
+    let full = src.len() / 2;
+    let most = if full < n { full } else { n };
+    let mut i = 0;
+    while most - i >= 16 {
+        pack_sixteen(src, i, dst, at + i);
+        i += 16;
+    }
+    while i < n {
+        dst[at + i] = packed_byte(src, 4, i);
+        i += 1;
+    }
+}
+
 // The first n bytes of indices packed to bpp bits.
 pub fn pack_bytes(src: &[u8], bpp: u16, n: usize, dst: &mut [u8], at: usize)
     requires { ⌜ hasTable bpp ≡ true ⌝ }
@@ -79,6 +128,10 @@ pub fn pack_bytes(src: &[u8], bpp: u16, n: usize, dst: &mut [u8], at: usize)
     requires { ⌜ at + n ≤ length (now dst) ⌝ }
     ensures { λ _. ⌜ now (dst .exit) ≡ put (now (dst .entry)) at (packed bpp (now (src .entry)) n) ⌝ }
 {
+    if bpp == 4 {
+        pack_nibbles(src, n, dst, at);
+        return;
+    }
     let mut i = 0;
     while i < n {
         dst[at + i] = packed_byte(src, bpp, i);
@@ -114,22 +167,97 @@ fn pack_words16(src: &[u8], width: u32, dst: &mut [u8], at: usize)
     put_zeros(dst, at + n, row_stride(width, 16) - n);
 }
 
+// The word of four bytes, the first one lowest.
+fn word_of(a: u8, b: u8, c: u8, d: u8) -> u32
+    ensures { λ word. ⌜ le32 word ≡ a ∷ b ∷ c ∷ d ∷ [] ⌝ }
+{
+    a as u32 + b as u32 * 256 + c as u32 * 65536 + d as u32 * 16777216
+}
+
+// The word of pixel x of 4 bytes.
+fn pixel_word(src: &[u8], x: usize) -> u32
+    requires { ⌜ x * 4 + 4 ≤ length (now src) ⌝ }
+    ensures { λ word. ⌜ le32 word ≡ cell32 true (now (src .entry)) x ⌝ }
+{
+    let s = x * 4;
+    word_of(src[s], src[s + 1], src[s + 2], src[s + 3])
+}
+
+// A pixel's word with red and blue exchanged. From the word it is a few masks, which vector code has;
+// from the bytes it would be moves of single bytes.
+fn exchanged(word: u32) -> u32
+    ensures { λ r. ⌜ le32 r ≡ cell32 false (le32 word) 0 ⌝ }
+{
+    word / 65536 % 256 + word / 256 % 256 * 256 + word % 256 * 65536 + word / 16777216 * 16777216
+}
+
+// The word of the stored cell of pixel x of a row with red first.
+fn cell_word32(src: &[u8], x: usize) -> u32
+    requires { ⌜ x * 4 + 4 ≤ length (now src) ⌝ }
+    ensures { λ r. ⌜ le32 r ≡ cell32 false (now (src .entry)) x ⌝ }
+{
+    exchanged(pixel_word(src, x))
+}
+
+// The 32-bit cells of a row with red first.
+fn exchange32(src: &[u8], width: u32, dst: &mut [u8], at: usize)
+    requires { ⌜ length (now src) ≡ width * 4 ⌝ }
+    requires { ⌜ at + width * 4 ≤ length (now dst) ⌝ }
+    ensures { λ _. ⌜ now (dst .exit) ≡ put (now (dst .entry)) at (cat (cell32 false (now (src .entry))) width) ⌝ }
+{
+    let w = width as usize;
+    let mut x = 0;
+    while x < w {
+        let word = cell_word32(src, x);
+        put_u32(dst, at + x * 4, word);
+        x += 1;
+    }
+}
+
+// The word of the stored cell of pixel x of a row with red first: its fourth byte is zero.
+fn cell_word24(src: &[u8], x: usize) -> u32
+    requires { ⌜ x * 3 + 3 ≤ length (now src) ⌝ }
+    ensures { λ r. ⌜ le32 r ≡ cell24 false (now (src .entry)) x ++ (0 ∷ []) ⌝ }
+{
+    let s = x * 3;
+    word_of(src[s + 2], src[s + 1], src[s], 0)
+}
+
+// The 24-bit cells of a row with red first. A cell is stored as a word, whose fourth byte the next cell
+// overwrites; only the last is stored by bytes.
+fn exchange24(src: &[u8], width: u32, dst: &mut [u8], at: usize)
+    requires { ⌜ length (now src) ≡ width * 3 ⌝ }
+    requires { ⌜ at + width * 3 ≤ length (now dst) ⌝ }
+    ensures { λ _. ⌜ now (dst .exit) ≡ put (now (dst .entry)) at (cat (cell24 false (now (src .entry))) width) ⌝ }
+{
+    let w = width as usize;
+    let mut x = 0;
+    while w - x >= 2 {
+        let p = cell_word24(src, x);
+        put_u32(dst, at + x * 3, p);
+        x += 1;
+    }
+    if x == w {
+        return;
+    }
+    let s = x * 3;
+    let o = at + s;
+    dst[o] = src[s + 2];
+    dst[o + 1] = src[s + 1];
+    dst[o + 2] = src[s];
+}
+
 // 24-bit cells: blue, green, red.
 fn pack_bgr24(src: &[u8], bgr: bool, width: u32, dst: &mut [u8], at: usize)
     requires { ⌜ length (now src) ≡ width * 3 ⌝ }
     requires { ⌜ at + rowStride width 24 ≤ length (now dst) ⌝ }
     ensures { λ _. ⌜ now (dst .exit) ≡ put (now (dst .entry)) at (storedRow (Bgr24 bgr) width (now (src .entry))) ⌝ }
 {
-    let red: usize = if bgr { 2 } else { 0 };
-    let blue: usize = 2 - red;
     let n = src.len();
-    let mut s = 0;
-    while s < n {
-        let o = at + s;
-        dst[o] = src[s + blue];
-        dst[o + 1] = src[s + 1];
-        dst[o + 2] = src[s + red];
-        s += 3;
+    if bgr {
+        put_slice(dst, at, src);
+    } else {
+        exchange24(src, width, dst, at);
     }
     put_zeros(dst, at + n, row_stride(width, 24) - n);
 }
@@ -140,18 +268,11 @@ fn pack_bgra32(src: &[u8], bgr: bool, width: u32, dst: &mut [u8], at: usize)
     requires { ⌜ at + rowStride width 32 ≤ length (now dst) ⌝ }
     ensures { λ _. ⌜ now (dst .exit) ≡ put (now (dst .entry)) at (storedRow (Bgra32 bgr) width (now (src .entry))) ⌝ }
 {
-    let red: usize = if bgr { 2 } else { 0 };
-    let blue: usize = 2 - red;
-    let n = src.len();
-    let mut s = 0;
-    while s < n {
-        let o = at + s;
-        dst[o] = src[s + blue];
-        dst[o + 1] = src[s + 1];
-        dst[o + 2] = src[s + red];
-        dst[o + 3] = src[s + 3];
-        s += 4;
+    if bgr {
+        put_slice(dst, at, src);
+        return;
     }
+    exchange32(src, width, dst, at);
 }
 
 // A sample in its channel's place.

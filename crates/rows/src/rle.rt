@@ -1,15 +1,19 @@
 // The row coders, the stream's count and the stream writer (the Rust's encoder.rs, section on RLE).
 ghost use mathlib.Core.Path.{_≡_};
-ghost use mathlib.Core.Bool.{cond};
+ghost use mathlib.Core.Bool.{not, cond};
 ghost use mathlib.Core.List.{[], _∷_, _++_};
-ghost use Prim.Native.Nat.{_+_, _*_, _<_, _≤_, _^_};
+ghost use Prim.Native.Nat.{_+_, _*_, _<_, _≤_, _^_, min};
+ghost use lib.Bits.{bitXor};
+ghost use lib.Dec.{eqb};
 ghost use lib.ListN.{length, getD, take, drop};
 ghost use Rattle.leaves.specs.declared.encoder.EncodedBmpFormat.the-variants as written;
 ghost use Rattle.leaves.specs.Put.{put};
 ghost use Rattle.rows.specs.Packing.{packedByte, packed};
 ghost use Rattle.rows.specs.RleCodes.{isRle4, depthOf, cells, runLength, gatherLength, blockAt, width, dataBytes, bytes, size, rowCodes};
 ghost use Rattle.rows.specs.Stream.{stream, counted};
+ghost use Rattle.rows.specs.Words.{word, leading};
 use crate::pack::pack_bytes;
+use leaves::buffer::put_slice;
 use leaves::encoder::EncodedBmpFormat;
 use leaves::types::BI_RLE4;
 use leaves::types::BI_RLE8;
@@ -77,28 +81,105 @@ fn cell(row: &[u8], k: usize, four: bool) -> usize
     index
 }
 
-// How many indices are gathered from `at` on.
+// The byte at k.
+fn byte(row: &[u8], k: usize) -> u64
+    requires { ⌜ k < length (now row) ⌝ }
+    ensures { λ r. ⌜ (r ≡ getD (now (row .entry)) k 0) × (r < 256) ⌝ }
+{
+    row[k] as u64
+}
+
+// Four bytes as one number, the first lowest.
+fn le32(row: &[u8], k: usize) -> u64
+    requires { ⌜ k + 4 ≤ length (now row) ⌝ }
+    ensures { λ r. ⌜ (r ≡ word (λ i. getD (now (row .entry)) i 0) k 4) × (r < 2 ^ 32) ⌝ }
+{
+    byte(row, k)
+        + byte(row, k + 1) * 0x100
+        + byte(row, k + 2) * 0x10000
+        + byte(row, k + 3) * 0x1000000
+}
+
+// Eight bytes, which are one load once compiled.
+fn le64(row: &[u8], k: usize) -> u64
+    requires { ⌜ k + 8 ≤ length (now row) ⌝ }
+    ensures { λ r. ⌜ r ≡ word (λ i. getD (now (row .entry)) i 0) k 8 ⌝ }
+{
+    le32(row, k) + le32(row, k + 4) * 0x100000000
+}
+
+// Eight bytes, each 0 where a cell from `k` on is the same as the next.
+fn differences(row: &[u8], k: usize, four: bool) -> u64
+    requires { ⌜ k + 8 < length (now row) ⌝ }
+    ensures { λ r. ⌜ r ≡ word (λ i. bitXor (getD (cells (depthOf four) (now (row .entry))) i 0) (getD (cells (depthOf four) (now (row .entry))) (i + 1) 0)) k 8 ⌝ }
+{
+    let x = le64(row, k) ^ le64(row, k + 1);
+    if four {
+        return x & 0x0F0F0F0F0F0F0F0F;
+    }
+    x
+}
+
+// How many of the eight cells after `k` are the same as the one before, up to the first that is not.
+fn same_cells(row: &[u8], k: usize, four: bool) -> usize
+    requires { ⌜ k + 8 < length (now row) ⌝ }
+    ensures { λ r. ⌜ r ≡ leading (λ i. eqb (getD (cells (depthOf four) (now (row .entry))) (i + 1) 0) (getD (cells (depthOf four) (now (row .entry))) i 0)) k 8 ⌝ }
+{
+    let x = differences(row, k, four);
+    (u64::trailing_zeros(x) / 8) as usize
+}
+
+// How many of the eight cells from `k` on are not the same as the next, up to the first that is: adding
+// 127 to a byte's low seven bits sets its high bit where one of them is set.
+fn lone_cells(row: &[u8], k: usize, four: bool) -> usize
+    requires { ⌜ k + 8 < length (now row) ⌝ }
+    ensures { λ r. ⌜ r ≡ leading (λ i. not (eqb (getD (cells (depthOf four) (now (row .entry))) i 0) (getD (cells (depthOf four) (now (row .entry))) (i + 1) 0))) k 8 ⌝ }
+{
+    let x = differences(row, k, four);
+    let low = 0x7F7F7F7F7F7F7F7F;
+    let high = 0x8080808080808080;
+    let zeros = (((x & low) + low) | x) & high ^ high;
+    (u64::trailing_zeros(zeros) / 8) as usize
+}
+
+// How many cells a block may code, of those that are left.
+fn most_cells(left: usize) -> usize
+    ensures { λ r. ⌜ r ≡ min left 255 ⌝ }
+{
+    if left < 255 {
+        return left;
+    }
+    255
+}
+
+// How many indices are gathered from `at` on: eight at a time as far as they fit.
 fn gather(row: &[u8], at: usize, four: bool) -> usize
     requires { ⌜ at < length (now row) ⌝ }
     ensures { λ r. ⌜ r ≡ gatherLength (drop (at + 1) (cells (depthOf four) (now (row .entry)))) ⌝ }
 {
+    let most = most_cells(row.len() - at);
     let mut count: usize = 1;
     loop {
-        if row.len() - at <= count {
-            break count;
-        }
-        if 255 <= count {
-            break count;
-        }
-        let next = at + count;
-        if next + 1 < row.len() {
-            let x = cell(row, next, four);
-            let y = cell(row, next + 1, four);
-            if x == y {
+        if most - count > 8 {
+            let lone = lone_cells(row, at + count, four);
+            if lone < 8 {
+                break count + lone;
+            }
+            count += 8;
+        } else {
+            if most <= count {
                 break count;
             }
+            let next = at + count;
+            if next + 1 < row.len() {
+                let x = cell(row, next, four);
+                let y = cell(row, next + 1, four);
+                if x == y {
+                    break count;
+                }
+            }
+            count += 1;
         }
-        count += 1;
     }
 }
 
@@ -159,25 +240,31 @@ impl Block {
     }
 }
 
-// How many equal cells start at `at`, at most 255.
+// How many equal cells start at `at`, at most 255: eight at a time as far as they fit.
 fn run_length(row: &[u8], at: usize, four: bool) -> usize
     requires { ⌜ at < length (now row) ⌝ }
     ensures { λ r. ⌜ r ≡ runLength (getD (cells (depthOf four) (now (row .entry))) at 0) (drop (at + 1) (cells (depthOf four) (now (row .entry)))) ⌝ }
 {
     let v = cell(row, at, four);
+    let most = most_cells(row.len() - at);
     let mut count: usize = 1;
     loop {
-        if row.len() - at <= count {
-            break count;
+        if most - count > 7 {
+            let same = same_cells(row, at + count - 1, four);
+            if same < 8 {
+                break count + same;
+            }
+            count += 8;
+        } else {
+            if most <= count {
+                break count;
+            }
+            let w = cell(row, at + count, four);
+            if w != v {
+                break count;
+            }
+            count += 1;
         }
-        if 255 <= count {
-            break count;
-        }
-        let w = cell(row, at + count, four);
-        if w != v {
-            break count;
-        }
-        count += 1;
     }
 }
 
@@ -216,16 +303,6 @@ fn pair_byte(v: usize, w: usize, four: bool) -> u8
     v as u8
 }
 
-// The depth of the indices.
-fn depth(four: bool) -> u16
-    ensures { λ r. ⌜ r ≡ depthOf four ⌝ }
-{
-    if four {
-        return 4;
-    }
-    8
-}
-
 // Writes the data of an absolute block, the `n` cells from `i` on, and returns the place after it.
 fn put_data(row: &[u8], i: usize, n: usize, four: bool, buf: &mut [u8], at: usize) -> usize
     requires { ⌜ (i + n ≤ length (now row)) × (n ≤ 255) × (at + dataBytes (depthOf four) n ≤ length (now buf)) ⌝ }
@@ -236,7 +313,14 @@ fn put_data(row: &[u8], i: usize, n: usize, four: bool, buf: &mut [u8], at: usiz
 {
     let len = data_bytes(n, four);
     let end = i + n;
-    pack_bytes(&row[i..end], depth(four), len, buf, at);
+    if four {
+        pack_bytes(&row[i..end], 4, len, buf, at);
+        return at + len;
+    }
+    put_slice(buf, at, &row[i..end]);
+    if n < len {
+        buf[at + n] = 0;
+    }
     at + len
 }
 
@@ -262,7 +346,8 @@ fn put_block(row: &[u8], i: usize, four: bool, b: Block, buf: &mut [u8], at: usi
     }
 }
 
-// Writes a row's codes from `at` on, and returns the place after them.
+// Writes a row's codes from `at` on, and returns the place after them. A run's cells are counted eight at
+// a time as far as they fit.
 fn encode_rle_row(row: &[u8], four: bool, buf: &mut [u8], at: usize) -> usize
     requires { ⌜ at + length (rowCodes (depthOf four) (now row)) ≤ length (now buf) ⌝ }
     ensures { λ r. ⌜
@@ -274,19 +359,25 @@ fn encode_rle_row(row: &[u8], four: bool, buf: &mut [u8], at: usize) -> usize
     let mut i: usize = 0;
     while i < row.len() {
         let v = cell(row, i, four);
+        let most = most_cells(row.len() - i);
         let mut count: usize = 1;
         let run = loop {
-            if row.len() - i <= count {
-                break count;
+            if most - count > 7 {
+                let same = same_cells(row, i + count - 1, four);
+                if same < 8 {
+                    break count + same;
+                }
+                count += 8;
+            } else {
+                if most <= count {
+                    break count;
+                }
+                let w = cell(row, i + count, four);
+                if w != v {
+                    break count;
+                }
+                count += 1;
             }
-            if 255 <= count {
-                break count;
-            }
-            let w = cell(row, i + count, four);
-            if w != v {
-                break count;
-            }
-            count += 1;
         };
         let b = block_from(row, i, four, v, run);
         o = put_block(row, i, four, b, buf, o);

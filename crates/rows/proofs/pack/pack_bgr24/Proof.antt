@@ -1,184 +1,67 @@
-use mathlib.Core.Path.{_≡_, refl, sym, ap, _∙_}
-use mathlib.Core.Bool.{Bool, true, false, cond}
+use mathlib.Core.Path.{_≡_, sym, ap, _∙_}
+use mathlib.Core.Bool.{Bool}
 use mathlib.Core.Logic.{⊎-elim}
-use mathlib.Core.List.{List, [], _∷_}
-use Prim.Native.Nat.{ℕ, _+_, _-_, _*_, _/_, _≤_}
 use native.Mathlib.Omega.{arith}
-use lib.ListN.{length, getD, set, length-set, replicate}
-use Rattle.rows.specs.declared.pack.RowPack.the-variants.{Bgr24}
+use lib.ListN.{length}
 use Rattle.leaves.specs.Lists.{cat}
 use Rattle.leaves.specs.Put.{put}
 use Rattle.leaves.specs.Sizes.{rowStride}
-use Rattle.rows.specs.StoredRows.{storedRow, cell24}
-use Rattle.leaves.proofs.Puts.{put-nil}
-use Rattle.leaves.proofs.ListLaws.{length-cat}
-use Rattle.rows.proofs.PackLaws.{put-cell, put-padded, stores3}
+use Rattle.rows.specs.StoredRows.{cell24}
+use Rattle.rows.proofs.Cells.{copied24, stored24}
 use Rattle.rows.proofs.pack.pack_bgr24.Statement.{statement}
 use Rattle.rows.proofs.pack.pack_bgr24.Tie as tie
 
--- the cell of pixel x, by its place s in the row
-cell-is : (bgr : Bool) (row : List ℕ) (x s red : ℕ) → s ≡ x * 3 → red ≡ cond bgr 2 0
-    → getD row (s + (2 - red)) 0 ∷ getD row (s + 1) 0 ∷ getD row (s + red) 0 ∷ [] ≡ cell24 bgr row x
-unfolding cell24
-cell-is true row x s red e f = rw (e, f)
-cell-is false row x s red e f = rw (e, f)
+put-slice-requires : tie.Need-put-slice-requires
+unfolding rowStride
+put-slice-requires c κs = omega arith
 
--- each cell has one length
-length-cell : (bgr : Bool) (row : List ℕ) (x : ℕ) → length (cell24 bgr row x) ≡ 3
-unfolding cell24
-length-cell bgr row x = refl
+exchange24-requires : tie.Need-exchange24-requires
+unfolding rowStride
+exchange24-requires c κs = (omega arith, omega arith)
 
--- one cell more is in place
-turn : (d₀ d row : List ℕ) (bgr : Bool) (at s red : ℕ) → red ≡ cond bgr 2 0 → s / 3 * 3 ≡ s → length d ≡ length d₀ → at + s + 3 ≤ length d
-    → d ≡ put d₀ at (cat (cell24 bgr row) (s / 3))
-    → set (set (set d (at + s) (getD row (s + (2 - red)) 0)) (at + s + 1) (getD row (s + 1) 0)) (at + s + 2) (getD row (s + red) 0)
-    ≡ put d₀ at (cat (cell24 bgr row) ((s + 3) / 3))
-turn d₀ d row bgr at s red first whole same room was =
-    put-cell d₀ d _ at 3 (s / 3) ((s + 3) / 3) (at + s) (cell24 bgr row) (length-cell bgr row) was
-    (stores3 d (at + s) (getD row (s + (2 - red)) 0) (getD row (s + 1) 0) (getD row (s + red) 0) room
-    ∙ ap (put d (at + s)) (cell-is bgr row (s / 3) s red (sym whole) first))
-    (omega arith) (omega arith) (omega arith)
-
--- all cells are in place, and the zeros after them
-done : (d₀ d e row : List ℕ) (bgr : Bool) (at s width stride : ℕ) → s / 3 * 3 ≡ s → s ≤ length row → length row ≤ s → length row ≡ width * 3
-    → stride ≡ rowStride width 24 → at + length row ≤ length d₀ → d ≡ put d₀ at (cat (cell24 bgr row) (s / 3))
-    → e ≡ put d (at + length row) (replicate (stride - length row) 0) → e ≡ put d₀ at (storedRow (Bgr24 bgr) width row)
-unfolding storedRow
-done d₀ d e row bgr at s width stride whole h k size strides room was is =
-    let l : length (cat (cell24 bgr row) width) ≡ width * 3 = length-cat (cell24 bgr row) 3 width (λ x _. length-cell bgr row x) in
-    let w : s / 3 ≡ width = omega arith in
-    put-padded d₀ d e (cat (cell24 bgr row) width) at (at + length row) (stride - length row) (rowStride width 24) (rw w at was) is (omega arith) (omega arith) (omega arith)
-
-abbrev Inv-loop : tie.InvT-loop
-Inv-loop src bgr width dst₀ at red blue n s₀ dst s =
-    (red ≤ 2)
-    × (red ≡ cond bgr 2 0)
-    × (at + n ≤ length dst₀)
-    × (s ≤ n)
-    × (s / 3 * 3 ≡ s)
-    × (length dst ≡ length dst₀)
-    × (dst ≡ put dst₀ at (cat (cell24 bgr src) (s / 3)))
-
-abbrev μ-loop : tie.MeasureT-loop
-μ-loop src bgr width dst₀ at red blue n s₀ dst s = n - s
-
-sub-blue : tie.Need-sub-blue Inv-loop μ-loop
-sub-blue c = ⊎-elim (λ w. omega arith) (λ w. omega arith) (c .before .if1 .came)
-
-loop-holds : tie.Need-loop-holds Inv-loop μ-loop
-unfolding rowStride cat
-loop-holds c =
-    let a = c .before .before .before .before .args in (
-      ⊎-elim (λ w. omega arith) (λ w. omega arith) (c .before .if1 .came),
-      ⊎-elim (λ w. rw (w .0 .taken) (w .1)) (λ w. rw (w .0 .left) (w .1)) (c .before .if1 .came),
-      omega arith,
-      omega arith,
-      refl,
-      refl,
-      sym (put-nil (a .dst .now) (a .at)),
-    )
-
-add-o : tie.Need-add-o Inv-loop μ-loop
-add-o c = omega arith
-
-add-dst : tie.Need-add-dst Inv-loop μ-loop
-add-dst c = omega arith
-
-shared-slice-read-dst : tie.Need-shared-slice-read-dst Inv-loop μ-loop
-shared-slice-read-dst c = omega arith
-
-slice-write-dst : tie.Need-slice-write-dst Inv-loop μ-loop
-slice-write-dst c = omega arith
-
-add-dst-2 : tie.Need-add-dst-2 Inv-loop μ-loop
-add-dst-2 c = omega arith
-
-shared-slice-read-dst-2 : tie.Need-shared-slice-read-dst-2 Inv-loop μ-loop
-shared-slice-read-dst-2 c = omega arith
-
-add-dst-3 : tie.Need-add-dst-3 Inv-loop μ-loop
-add-dst-3 c = omega arith
-
-slice-write-dst-2 : tie.Need-slice-write-dst-2 Inv-loop μ-loop
-slice-write-dst-2 c = simp length-set (omega arith)
-
-add-dst-4 : tie.Need-add-dst-4 Inv-loop μ-loop
-add-dst-4 c = omega arith
-
-shared-slice-read-dst-3 : tie.Need-shared-slice-read-dst-3 Inv-loop μ-loop
-shared-slice-read-dst-3 c = omega arith
-
-add-dst-5 : tie.Need-add-dst-5 Inv-loop μ-loop
-add-dst-5 c = omega arith
-
-slice-write-dst-3 : tie.Need-slice-write-dst-3 Inv-loop μ-loop
-slice-write-dst-3 c = simp length-set (omega arith)
-
-add-s : tie.Need-add-s Inv-loop μ-loop
-add-s c = omega arith
-
-loop-less : tie.Need-loop-less Inv-loop μ-loop
-loop-less c = omega arith
-
-loop-again : tie.Need-loop-again Inv-loop μ-loop
-loop-again c =
-    let l = c .before .before .before .before .before .loop in
-    let a = c .before .before .before .before .before .before .before .before .before .before .args in (
-      l .inv .0,
-      l .inv .1,
-      l .inv .2,
-      omega arith,
-      omega arith,
-      simp length-set (l .inv .5),
-      turn (a .dst .now) (l .dst) (a .src .now) (a .bgr) (a .at) (l .s) (c .before .before .before .before .before .before .before .if1 .red) (l .inv .1) (l .inv .4) (l .inv .5) (omega arith) (l .inv .6),
-    )
-
-add-put-zeros : tie.Need-add-put-zeros Inv-loop μ-loop
+add-put-zeros : tie.Need-add-put-zeros
 add-put-zeros c = omega arith
 
-row-stride-requires : tie.Need-row-stride-requires Inv-loop μ-loop
+row-stride-requires : tie.Need-row-stride-requires
 row-stride-requires c κs = omega arith
 
-sub-put-zeros : tie.Need-sub-put-zeros Inv-loop μ-loop
+sub-put-zeros : tie.Need-sub-put-zeros
 unfolding rowStride
 sub-put-zeros c = omega arith
 
-put-zeros-requires : tie.Need-put-zeros-requires Inv-loop μ-loop
-put-zeros-requires c κs = omega arith
+put-zeros-requires : tie.Need-put-zeros-requires
+unfolding rowStride
+put-zeros-requires c κs =
+    let same : length (c .before .before .if1 .dst) ≡ length (c .before .before .before .before .before .args .dst .now) =
+    ⊎-elim (λ w. rw (w .5) (omega arith)) (λ w. rw (w .5) (omega arith)) (c .before .before .if1 .came) in
+    omega arith
 
-same-length : tie.Need-same-length Inv-loop μ-loop
-same-length c = omega arith
+same-length : tie.Need-same-length
+same-length c =
+    let i = c .before .before .before .before .before .if1 in
+    let same : length (i .dst) ≡ length (c .before .before .before .before .before .before .before .before .args .dst .now) = ⊎-elim (λ w. rw (w .5) (omega arith)) (λ w. rw (w .5) (omega arith)) (i .came) in
+    omega arith
 
-returns : tie.Need-returns Inv-loop μ-loop
+returns : tie.Need-returns
+unfolding rowStride
 returns c =
-    let l = c .before .before .before .before .before .before .loop in
-    let z = c .before .before .before .before .before .before .before .before .before .before .before in
+    let z = c .before .before .before .before .before .before .before .before in
     let a = z .args in
-    done (a .dst .now) (l .dst) (c .before .before .put-zeros .last .0) (a .src .now) (a .bgr) (a .at) (l .s) (a .width) (c .before .before .before .row-stride .result) (l .inv .4) (l .inv .3) (omega arith) (z .pre .0) (c .before .before .before .row-stride .ensures) (l .inv .2) (l .inv .6) (c .before .before .put-zeros .ensures)
+    let i = c .before .before .before .before .before .if1 in
+    let r = c .before .before .before .row-stride in
+    let cells : i .dst ≡ put (a .dst .now) (a .at) (cat (cell24 (a .bgr) (a .src .now)) (a .width)) =
+    ⊎-elim
+    (λ w. w .5 ∙ w .2 .ensures ∙ ap (put (a .dst .now) (a .at)) (copied24 (a .src .now) (a .width) (z .pre .0) ∙ ap (λ (bgr : Bool). cat (cell24 bgr (a .src .now)) (a .width)) (sym (w .0 .taken))))
+    (λ w. w .5 ∙ w .2 .ensures ∙ ap (λ (bgr : Bool). put (a .dst .now) (a .at) (cat (cell24 bgr (a .src .now)) (a .width))) (sym (w .0 .left)))
+    (i .came) in
+    stored24 (a .bgr) (a .src .now) (a .dst .now) (i .dst) (c .before .before .put-zeros .last .0) (a .at) (a .width) (r .result) (z .pre .0) (r .ensures) (omega arith) cells (c .before .before .put-zeros .ensures)
 
 pub pack-bgr24-spec : {M : Type 1} → statement M
 pack-bgr24-spec =
     tie.close
     (tie.spec
-    Inv-loop
-    μ-loop
-    sub-blue
-    loop-holds
-    add-o
-    add-dst
-    shared-slice-read-dst
-    slice-write-dst
-    add-dst-2
-    shared-slice-read-dst-2
-    add-dst-3
-    slice-write-dst-2
-    add-dst-4
-    shared-slice-read-dst-3
-    add-dst-5
-    slice-write-dst-3
-    add-s
-    loop-less
-    loop-again
+    put-slice-requires
+    exchange24-requires
     add-put-zeros
     row-stride-requires
     sub-put-zeros

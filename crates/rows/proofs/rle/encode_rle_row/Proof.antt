@@ -14,14 +14,13 @@ use Rattle.rows.proofs.rle.encode_rle_row.Statement.{statement}
 use Rattle.rows.proofs.rle.encode_rle_row.Tie as tie
 
 abbrev Inv-loop2 : tie.InvT-loop2
-Inv-loop2 row four buf at o i v count₀ count = Laws.Running (depthOf four) row i count
+Inv-loop2 row four buf at o i v most count₀ count = Laws.Running (depthOf four) row i count
 
 abbrev μ-loop2 : tie.MeasureT-loop2
-μ-loop2 row four buf at o i v count₀ count = length row - count
+μ-loop2 row four buf at o i v most count₀ count = length row - count
 
 abbrev Inv-loop : tie.InvT-loop
-Inv-loop row four buf₀ at o₀ i₀ buf o i =
-    (i ≤ length row)
+Inv-loop row four buf₀ at o₀ i₀ buf o i = (i ≤ length row)
     × (length buf ≡ length buf₀)
     × (o + length (codes (depthOf four) 0 (drop i (cells (depthOf four) row))) ≡ at + length (rowCodes (depthOf four) row))
     × (put buf o (codes (depthOf four) 0 (drop i (cells (depthOf four) row))) ≡ put buf₀ at (rowCodes (depthOf four) row))
@@ -36,17 +35,29 @@ loop-holds c = (omega arith, refl, refl, refl)
 cell-requires : tie.Need-cell-requires Inv-loop2 μ-loop2 Inv-loop μ-loop
 cell-requires c κs = omega arith
 
+sub-most-cells : tie.Need-sub-most-cells Inv-loop2 μ-loop2 Inv-loop μ-loop
+sub-most-cells c = omega arith
+
+most-cells-requires : tie.Need-most-cells-requires Inv-loop2 μ-loop2 Inv-loop μ-loop
+most-cells-requires c κs = omega arith
+
 loop2-holds : tie.Need-loop2-holds Inv-loop2 μ-loop2 Inv-loop μ-loop
 loop2-holds c = Laws.run-start _ _ _ (omega arith)
 
 sub-if1 : tie.Need-sub-if1 Inv-loop2 μ-loop2 Inv-loop μ-loop
 sub-if1 c = omega arith
 
-add-cell : tie.Need-add-cell Inv-loop2 μ-loop2 Inv-loop μ-loop
-add-cell c = omega arith
+add-same-cells : tie.Need-add-same-cells Inv-loop2 μ-loop2 Inv-loop μ-loop
+add-same-cells c = omega arith
 
-cell-requires-2 : tie.Need-cell-requires-2 Inv-loop2 μ-loop2 Inv-loop μ-loop
-cell-requires-2 c κs = omega arith
+sub-same-cells : tie.Need-sub-same-cells Inv-loop2 μ-loop2 Inv-loop μ-loop
+sub-same-cells c = omega arith
+
+same-cells-requires : tie.Need-same-cells-requires Inv-loop2 μ-loop2 Inv-loop μ-loop
+same-cells-requires c κs = omega arith
+
+add-run : tie.Need-add-run Inv-loop2 μ-loop2 Inv-loop μ-loop
+add-run c = omega arith
 
 add-count : tie.Need-add-count Inv-loop2 μ-loop2 Inv-loop μ-loop
 add-count c = omega arith
@@ -57,30 +68,48 @@ loop2-less c = omega arith
 loop2-again : tie.Need-loop2-again Inv-loop2 μ-loop2 Inv-loop μ-loop
 loop2-again c =
     let a = c .before .before .before .before .before .before .before .before .before .before .args in
-    let i = c .before .before .before .before .before .before .before .loop .i in
+    let l = c .before .before .before .loop2 in
+    Laws.run-eight-on (depthOf (a .four)) (a .row .now) (c .before .before .before .before .before .before .before .loop .i) (l .count) (l .inv) _ (c .before .same-cells .ensures) (omega arith) (omega arith) (c .if2 .left)
+
+add-cell : tie.Need-add-cell Inv-loop2 μ-loop2 Inv-loop μ-loop
+add-cell c = omega arith
+
+cell-requires-2 : tie.Need-cell-requires-2 Inv-loop2 μ-loop2 Inv-loop μ-loop
+cell-requires-2 c κs = omega arith
+
+add-count-2 : tie.Need-add-count-2 Inv-loop2 μ-loop2 Inv-loop μ-loop
+add-count-2 c = omega arith
+
+loop2-less-2 : tie.Need-loop2-less-2 Inv-loop2 μ-loop2 Inv-loop μ-loop
+loop2-less-2 c = omega arith
+
+loop2-again-2 : tie.Need-loop2-again-2 Inv-loop2 μ-loop2 Inv-loop μ-loop
+loop2-again-2 c =
+    let a = c .before .before .before .before .before .before .before .before .before .before .before .args in
     let l = c .before .before .before .before .loop2 in
-    Laws.run-on (depthOf (a .four)) (a .row .now) i (l .count) (l .inv) (omega arith) _ _ (c .before .before .before .before .before .cell .ensures .0) (c .before .cell2 .ensures .0) (omega arith) (c .if3 .left)
+    Laws.run-on (depthOf (a .four)) (a .row .now) (c .before .before .before .before .before .before .before .before .loop .i) (l .count) (l .inv) (omega arith) _ _ (c .before .before .before .before .before .before .cell .ensures .0) (c .before .cell2 .ensures .0) (omega arith) (c .if4 .left)
 
 block-from-requires : tie.Need-block-from-requires Inv-loop2 μ-loop2 Inv-loop μ-loop
 block-from-requires c κs =
-    let a = c .before .before .before .before .before .before .before .args in
-    let i = c .before .before .before .before .loop .i in
+    let a = c .before .before .before .before .before .before .before .before .args in
+    let i = c .before .before .before .before .before .loop .i in
     let l = c .before .loop2 in
-    let v = c .before .before .cell .ensures .0 in (
+    let m = c .before .before .most-cells .ensures in
+    let v = c .before .before .before .cell .ensures .0 in (
       omega arith,
       v,
       ⊎-elim
-          (λ k. k .1 ∙ Laws.run-end (depthOf (a .four)) (a .row .now) i (l .count) (l .inv) (omega arith))
+          (λ k. k .3 ∙ Laws.run-eight-stop (depthOf (a .four)) (a .row .now) i (l .count) (l .inv) _ (k .1 .ensures) (omega arith) (omega arith) (k .2 .taken))
           (⊎-elim
-          (λ k. k .2 ∙ Laws.run-full (depthOf (a .four)) (a .row .now) i (l .count) (l .inv) (k .1 .taken))
+          (λ k. k .2 ∙ Laws.run-end (depthOf (a .four)) (a .row .now) i (l .count) (l .inv) _ m (k .1 .taken))
           (λ k. k .4 ∙ Laws.run-stop (depthOf (a .four)) (a .row .now) i (l .count) (l .inv) (omega arith) _ _ v (k .2 .ensures .0) (k .3 .taken)))
           (c .if1 .came),
     )
 
 put-block-requires : tie.Need-put-block-requires Inv-loop2 μ-loop2 Inv-loop μ-loop
 put-block-requires c κs =
-    let a = c .before .before .before .before .before .before .before .before .before .args in
-    let l = c .before .before .before .before .before .before .loop in
+    let a = c .before .before .before .before .before .before .before .before .before .before .args in
+    let l = c .before .before .before .before .before .before .before .loop in
     let e = c .before .block-from .ensures in
     let t = Codes.turn (depthOf (a .four)) (depth-le (a .four)) (a .row .now) (l .i) (omega arith) _ e _ _ refl refl in
     (omega arith, e, omega arith)
@@ -90,24 +119,24 @@ width-requires c κs = tt
 
 add-i : tie.Need-add-i Inv-loop2 μ-loop2 Inv-loop μ-loop
 add-i c =
-    let a = c .before .before .before .before .before .before .before .before .before .before .before .before .before .args in
-    let l = c .before .before .before .before .before .before .before .before .before .before .loop in
+    let a = c .before .before .before .before .before .before .before .before .before .before .before .before .before .before .args in
+    let l = c .before .before .before .before .before .before .before .before .before .before .before .loop in
     let e = c .before .before .before .before .before .block-from .ensures in
     let t = Codes.turn (depthOf (a .four)) (depth-le (a .four)) (a .row .now) (l .i) (omega arith) _ e _ _ (c .width .ensures) refl in
     omega arith
 
 loop-less : tie.Need-loop-less Inv-loop2 μ-loop2 Inv-loop μ-loop
 loop-less c =
-    let a = c .before .before .before .before .before .before .before .before .before .before .before .before .before .args in
-    let l = c .before .before .before .before .before .before .before .before .before .before .loop in
+    let a = c .before .before .before .before .before .before .before .before .before .before .before .before .before .before .args in
+    let l = c .before .before .before .before .before .before .before .before .before .before .before .loop in
     let e = c .before .before .before .before .before .block-from .ensures in
     let t = Codes.turn (depthOf (a .four)) (depth-le (a .four)) (a .row .now) (l .i) (omega arith) _ e _ _ (c .width .ensures) refl in
     omega arith
 
 loop-again : tie.Need-loop-again Inv-loop2 μ-loop2 Inv-loop μ-loop
 loop-again c =
-    let a = c .before .before .before .before .before .before .before .before .before .before .before .before .before .args in
-    let l = c .before .before .before .before .before .before .before .before .before .before .loop in
+    let a = c .before .before .before .before .before .before .before .before .before .before .before .before .before .before .args in
+    let l = c .before .before .before .before .before .before .before .before .before .before .before .loop in
     let e = c .before .before .before .before .before .block-from .ensures in
     let t = Codes.turn (depthOf (a .four)) (depth-le (a .four)) (a .row .now) (l .i) (omega arith) _ e _ _ (c .width .ensures) refl in
     let p = c .before .before .before .put-block in (
@@ -138,13 +167,22 @@ encode-rle-row-spec =
     μ-loop
     loop-holds
     cell-requires
+    sub-most-cells
+    most-cells-requires
     loop2-holds
     sub-if1
-    add-cell
-    cell-requires-2
+    add-same-cells
+    sub-same-cells
+    same-cells-requires
+    add-run
     add-count
     loop2-less
     loop2-again
+    add-cell
+    cell-requires-2
+    add-count-2
+    loop2-less-2
+    loop2-again-2
     block-from-requires
     put-block-requires
     width-requires

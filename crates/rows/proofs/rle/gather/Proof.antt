@@ -6,28 +6,58 @@ use native.Mathlib.Omega.{arith}
 use borrow.Author.Tests.{eq-eqb, ne-eqb}
 use lib.ListN.{length, getD, drop}
 use Rattle.rows.specs.RleCodes.{depthOf, cells, scan, lone, gatherLength}
-use Rattle.rows.proofs.Scans.{scan-full, scan-stop, scan-step, scan-end, twin-at, twin-end}
+use Rattle.rows.proofs.Scans.{scan-most, scan-stop, scan-step, twin-at, twin-end, lone-stop, lone-on}
 use Rattle.rows.proofs.rle.gather.Statement.{statement}
 use Rattle.rows.proofs.rle.gather.Tie as tie
 
 abbrev Inv-loop : tie.InvT-loop
-Inv-loop row at four count₀ count =
-    (at + count ≤ length row) × (gatherLength (drop (at + 1) (cells (depthOf four) row)) ≡ scan lone count (drop (at + count) (cells (depthOf four) row)))
+Inv-loop row at four most count₀ count = (at + count ≤ length row) × (count ≤ 255) × (gatherLength (drop (at + 1) (cells (depthOf four) row)) ≡ scan lone count (drop (at + count) (cells (depthOf four) row)))
 
 abbrev μ-loop : tie.MeasureT-loop
-μ-loop row at four count₀ count = length row - count
+μ-loop row at four most count₀ count = length row - count
+
+sub-most-cells : tie.Need-sub-most-cells Inv-loop μ-loop
+sub-most-cells c = omega arith
+
+most-cells-requires : tie.Need-most-cells-requires Inv-loop μ-loop
+most-cells-requires c κs = omega arith
 
 loop-holds : tie.Need-loop-holds Inv-loop μ-loop
-loop-holds c = (omega arith, refl)
+loop-holds c = (omega arith, omega arith, refl)
 
 sub-if1 : tie.Need-sub-if1 Inv-loop μ-loop
 sub-if1 c = omega arith
 
+add-lone-cells : tie.Need-add-lone-cells Inv-loop μ-loop
+add-lone-cells c = omega arith
+
+lone-cells-requires : tie.Need-lone-cells-requires Inv-loop μ-loop
+lone-cells-requires c κs = omega arith
+
+add-result : tie.Need-add-result Inv-loop μ-loop
+add-result c = omega arith
+
+add-count : tie.Need-add-count Inv-loop μ-loop
+add-count c = omega arith
+
+loop-less : tie.Need-loop-less Inv-loop μ-loop
+loop-less c = omega arith
+
+loop-again : tie.Need-loop-again Inv-loop μ-loop
+loop-again c =
+    let a = c .before .before .before .before .before .before .args in
+    let n = c .before .before .before .loop .count in
+    let e : a .at + (n + 8) ≡ a .at + n + 8 = omega arith in (
+      omega arith,
+      omega arith,
+      c .before .before .before .loop .inv .2 ∙ rw e (lone-on (depthOf (a .four)) (a .row .now) n (a .at + n) _ (c .before .lone-cells .ensures) (omega arith) (omega arith) (c .if2 .left)),
+    )
+
 add-next : tie.Need-add-next Inv-loop μ-loop
 add-next c = omega arith
 
-add-if3 : tie.Need-add-if3 Inv-loop μ-loop
-add-if3 c = omega arith
+add-if4 : tie.Need-add-if4 Inv-loop μ-loop
+add-if4 c = omega arith
 
 cell-requires : tie.Need-cell-requires Inv-loop μ-loop
 cell-requires c κs = omega arith
@@ -38,51 +68,54 @@ add-cell c = omega arith
 cell-requires-2 : tie.Need-cell-requires-2 Inv-loop μ-loop
 cell-requires-2 c κs = omega arith
 
-add-count : tie.Need-add-count Inv-loop μ-loop
-add-count c = omega arith
+add-count-2 : tie.Need-add-count-2 Inv-loop μ-loop
+add-count-2 c = omega arith
 
-loop-less : tie.Need-loop-less Inv-loop μ-loop
-loop-less c = omega arith
+loop-less-2 : tie.Need-loop-less-2 Inv-loop μ-loop
+loop-less-2 c = omega arith
 
-loop-again : tie.Need-loop-again Inv-loop μ-loop
-loop-again c =
-    let a = c .before .before .before .before .before .args in
+loop-again-2 : tie.Need-loop-again-2 Inv-loop μ-loop
+loop-again-2 c =
+    let a = c .before .before .before .before .before .before .args in
     let row = a .row .now in
     let n = c .before .before .before .loop .count in
     let q = a .at + n + 1 in
     let e : a .at + (n + 1) ≡ q = omega arith in
     let x = getD (cells (depthOf (a .four)) row) (a .at + n) 0 in (
       omega arith,
-      c .before .before .before .loop .inv .1
+      omega arith,
+      c .before .before .before .loop .inv .2
           ∙ scan-step lone (depthOf (a .four)) row n (a .at + n) (a .at + (n + 1)) e (omega arith) (omega arith)
           (rw e
           (⊎-elim
           (λ w. ap not (twin-at (depthOf (a .four)) row x q (w .0 .taken) ∙ ne-eqb _ _ (λ t. w .3 .left (w .1 .ensures .0 ∙ t ∙ sym (w .2 .ensures .0)))))
           (λ w. ap not (twin-end (depthOf (a .four)) row x q (w .left)))
-          (c .if3 .came))),
+          (c .if4 .came))),
     )
 
 returns : tie.Need-returns Inv-loop μ-loop
 returns c =
-    let a = c .before .before .before .args in
-    let n = c .before .loop .count in
-    sym (c .before .loop .inv .1 ∙ scan-end lone (depthOf (a .four)) (a .row .now) n (a .at + n) (omega arith))
+    let a = c .before .before .before .before .before .before .args in
+    let n = c .before .before .before .loop .count in
+    sym (c .before .before .before .loop .inv .2 ∙ lone-stop (depthOf (a .four)) (a .row .now) n (a .at + n) _ (c .before .lone-cells .ensures) (omega arith) (omega arith) (c .if2 .taken))
 
 returns-2 : tie.Need-returns-2 Inv-loop μ-loop
 returns-2 c =
-    sym (c .before .before .loop .inv .1 ∙ scan-full _ _ _ (c .if2 .taken))
+    let a = c .before .before .before .before .before .args in
+    let n = c .before .before .loop .count in
+    sym (c .before .before .loop .inv .2 ∙ scan-most lone (depthOf (a .four)) (a .row .now) (a .at) n _ (c .before .before .before .most-cells .ensures) (c .if3 .taken))
 
 returns-3 : tie.Need-returns-3 Inv-loop μ-loop
 returns-3 c =
-    let a = c .before .before .before .before .before .before .before .before .args in
+    let a = c .before .before .before .before .before .before .before .before .before .args in
     let row = a .row .now in
     let n = c .before .before .before .before .before .before .loop .count in
     let q = a .at + n + 1 in
     let x = getD (cells (depthOf (a .four)) row) (a .at + n) 0 in
     sym
-    (c .before .before .before .before .before .before .loop .inv .1
+    (c .before .before .before .before .before .before .loop .inv .2
     ∙ scan-stop lone (depthOf (a .four)) row n (a .at + n) q refl (omega arith)
-    (ap not (twin-at (depthOf (a .four)) row x q (omega arith) ∙ eq-eqb _ _ (sym (c .before .before .cell .ensures .0) ∙ c .if4 .taken ∙ c .before .cell2 .ensures .0))))
+    (ap not (twin-at (depthOf (a .four)) row x q (omega arith) ∙ eq-eqb _ _ (sym (c .before .before .cell .ensures .0) ∙ c .if5 .taken ∙ c .before .cell2 .ensures .0))))
 
 pub gather-spec : {M : Type 1} → statement M
 gather-spec =
@@ -90,16 +123,24 @@ gather-spec =
     (tie.spec
     Inv-loop
     μ-loop
+    sub-most-cells
+    most-cells-requires
     loop-holds
     sub-if1
-    add-next
-    add-if3
-    cell-requires
-    add-cell
-    cell-requires-2
+    add-lone-cells
+    lone-cells-requires
+    add-result
     add-count
     loop-less
     loop-again
+    add-next
+    add-if4
+    cell-requires
+    add-cell
+    cell-requires-2
+    add-count-2
+    loop-less-2
+    loop-again-2
     returns
     returns-2
     returns-3)
