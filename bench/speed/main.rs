@@ -1,8 +1,9 @@
 //! The port and the original on the same pictures: time of a writing call.
 //!
 //! Both write into memory that is there before: the original appends to a Vec with capacity, the port into a lent buffer
-//! that is not cleared. Files are compared first. Rounds are interleaved, and of each side the least time counts. The last
-//! column is a copy of the file's bytes.
+//! that is not cleared. Files are compared first. Rounds are interleaved, and of each side the least time counts; the
+//! spread is the least and the greatest ratio among five parts of the rounds, each with its own least times. The last
+//! column is a copy of the file's bytes. A second table has the port's time by the picture's size.
 
 #[path = "../differential/port.rs"]
 #[allow(dead_code)]
@@ -121,11 +122,26 @@ fn plane(w: &Work) -> Vec<u8> {
     }
 }
 
+#[derive(Clone, Copy)]
 struct Times {
     port: f64,
     original: f64,
     copy: f64,
 }
+
+impl Times {
+    const NONE: Times = Times { port: f64::MAX, original: f64::MAX, copy: f64::MAX };
+
+    fn least(self, other: Times) -> Times {
+        Times { port: self.port.min(other.port), original: self.original.min(other.original), copy: self.copy.min(other.copy) }
+    }
+
+    fn ratio(self) -> f64 {
+        self.port / self.original
+    }
+}
+
+const PARTS: usize = 5;
 
 fn timed(mut f: impl FnMut()) -> f64 {
     let start = Instant::now();
@@ -133,7 +149,7 @@ fn timed(mut f: impl FnMut()) -> f64 {
     start.elapsed().as_secs_f64()
 }
 
-fn measure(w: &Work, rounds: usize) -> (Times, String, usize) {
+fn measure(w: &Work, rounds: usize) -> (Vec<Times>, String, usize) {
     let plane = plane(w);
     let indexed = w.format >= PAL8;
     let entries: Vec<[u8; 4]> = (0..if w.chosen.minimal { 100 } else { 256 }).map(|k| [k as u8, 255 - k as u8, 128, 255]).collect();
@@ -173,30 +189,47 @@ fn measure(w: &Work, rounds: usize) -> (Times, String, usize) {
     assert!(out[..answer.bytes as usize] == appended[..], "{}: the files differ", w.name);
     let len = appended.len();
     let (file, mut target) = (appended.clone(), vec![0u8; len]);
-    let mut best = Times { port: f64::MAX, original: f64::MAX, copy: f64::MAX };
-    for _ in 0..rounds {
-        best.port = best.port.min(timed(|| {
+    let mut round = || Times {
+        port: timed(|| {
             black_box(port::encode_into(source, raw, lent, black_box(&mut out), 0));
-        }));
-        best.original = best.original.min(timed(|| {
+        }),
+        original: timed(|| {
             appended.clear();
             black_box(differential_append(&picture, &options, black_box(&mut appended)).unwrap());
-        }));
-        best.copy = best.copy.min(timed(|| black_box(&mut target).copy_from_slice(black_box(&file))));
+        }),
+        copy: timed(|| black_box(&mut target).copy_from_slice(black_box(&file))),
+    };
+    let parts = (0..PARTS).map(|_| (0..rounds.div_ceil(PARTS)).fold(Times::NONE, |best, _| best.least(round()))).collect();
+    (parts, format!("{format:?}"), len)
+}
+
+/// How long a call takes by the picture's size.
+fn growth(factor: usize) {
+    println!("\n| side | Pal8 surface, ns a cell | Pal8 surface, no RLE | Rgba |");
+    println!("|---|---|---|---|");
+    for side in [200, 400, 1000, 2000, 4096] {
+        let cell = |format, cells, no_rle| {
+            let rounds = factor * if side > 1000 { 25 } else { 100 };
+            let (parts, _, _) = measure(&work("", format, side, side, cells, Chosen { no_rle, ..Chosen::default() }), rounds);
+            parts.into_iter().fold(Times::NONE, Times::least).port * 1e9 / (side * side) as f64
+        };
+        println!("| {side} | {:.2} | {:.2} | {:.2} |", cell(PAL8, Cells::Surface, false), cell(PAL8, Cells::Surface, true), cell(0, Cells::Random, false));
     }
-    (best, format!("{format:?}"), len)
 }
 
 fn main() {
     let factor: usize = std::env::args().nth(1).and_then(|n| n.parse().ok()).unwrap_or(1);
-    println!("| workload | written as | bytes | port µs | original µs | port / original | port / copy |");
-    println!("|---|---|---|---|---|---|---|");
+    println!("| workload | written as | bytes | port µs | original µs | port / original | spread | port / copy |");
+    println!("|---|---|---|---|---|---|---|---|");
     let mut logs = Vec::new();
     for w in workloads() {
         let rounds = factor * if w.width * w.height > 1_000_000 { 25 } else { 200 };
-        let (t, format, len) = measure(&w, rounds);
-        logs.push((t.port / t.original).ln());
-        println!("| {} | {} | {} | {:.1} | {:.1} | {:.2} | {:.2} |", w.name, format, len, t.port * 1e6, t.original * 1e6, t.port / t.original, t.port / t.copy);
+        let (parts, format, len) = measure(&w, rounds);
+        let t = parts.iter().copied().fold(Times::NONE, Times::least);
+        let (low, high) = parts.iter().fold((f64::MAX, 0f64), |(low, high), part| (low.min(part.ratio()), high.max(part.ratio())));
+        logs.push(t.ratio().ln());
+        println!("| {} | {} | {} | {:.1} | {:.1} | {:.2} | {:.2} to {:.2} | {:.2} |", w.name, format, len, t.port * 1e6, t.original * 1e6, t.ratio(), low, high, t.port / t.copy);
     }
     println!("\ngeometric mean of port / original: {:.2}", (logs.iter().sum::<f64>() / logs.len() as f64).exp());
+    growth(factor);
 }
