@@ -1,5 +1,8 @@
 pub mod AllRows
 pub mod Cells
+pub mod Charges
+pub mod FlagBytes
+pub mod FromBits
 pub mod MaskCells
 pub mod Nibbles
 pub mod PackLaws
@@ -8,5 +11,7 @@ pub mod RleBytes
 pub mod Scans
 pub mod StreamPlaces
 pub mod Streams
+pub mod WindowBlocks
+pub mod WindowCharges
 pub mod WordCells
-pub mod Words
+pub mod WordLaws

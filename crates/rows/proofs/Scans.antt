@@ -12,7 +12,7 @@ use lib.ListN.{length, getD, drop, drop-of-length-le, length-map, List·getD-map
 use lib.Seq.{drop-cons}
 use Rattle.rows.specs.RleCodes.{cells, scan, twin, same, lone, runLength}
 use Rattle.rows.specs.Words.{leading}
-use Rattle.rows.proofs.Words.{leading-all}
+use Rattle.rows.proofs.WordLaws.{leading-all}
 
 pub scan-full : (on : ℕ → List ℕ → Bool) (n : ℕ) (xs : List ℕ) → 255 ≤ n → scan on n xs ≡ n
 unfolding scan

@@ -12,7 +12,7 @@ use lib.ListN.{getD}
 use Rattle.rows.specs.RleCodes.{depthOf, cells}
 use Rattle.rows.specs.Words.{word, leading}
 use Rattle.rows.proofs.Scans.{cell-at}
-use Rattle.rows.proofs.Words.{leading-ext, word-ext, word-next, word-and, word-xor, xor-test, zero-bytes-8, lone-bytes-8}
+use Rattle.rows.proofs.WordLaws.{leading-ext, word-ext, word-next, word-and, word-xor, xor-test, zero-bytes-8, lone-bytes-8}
 
 -- where the cells from a place on differ from the next, as a number
 module _ (row : List ℕ) (k : ℕ) (h : (i : ℕ) → getD row i 0 < 256) where

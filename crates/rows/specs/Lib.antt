@@ -2,4 +2,5 @@ pub mod Packing
 pub mod RleCodes
 pub mod StoredRows
 pub mod Stream
+pub mod Windows
 pub mod Words

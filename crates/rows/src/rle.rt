@@ -1,6 +1,7 @@
 // The row coders, the stream's count and the stream writer (the Rust's encoder.rs, section on RLE).
 ghost use mathlib.Core.Path.{_≡_};
 ghost use mathlib.Core.Bool.{not, cond};
+ghost use mathlib.Core.Logic.{_⊎_};
 ghost use mathlib.Core.List.{[], _∷_, _++_};
 ghost use Prim.Native.Nat.{_+_, _*_, _<_, _≤_, _^_, min};
 ghost use lib.Bits.{bitXor};
@@ -11,8 +12,13 @@ ghost use Rattle.leaves.specs.Put.{put};
 ghost use Rattle.rows.specs.Packing.{packedByte, packed};
 ghost use Rattle.rows.specs.RleCodes.{isRle4, depthOf, cells, runLength, gatherLength, blockAt, width, dataBytes, bytes, size, rowCodes};
 ghost use Rattle.rows.specs.Stream.{stream, counted};
+ghost use Rattle.rows.specs.Windows.{Coding};
 ghost use Rattle.rows.specs.Words.{word, leading};
 use crate::pack::pack_bytes;
+use crate::windows::charge_below;
+use crate::windows::flag_word;
+use crate::windows::whole_runs;
+use crate::words::le64;
 use leaves::buffer::put_slice;
 use leaves::encoder::EncodedBmpFormat;
 use leaves::types::BI_RLE4;
@@ -79,33 +85,6 @@ fn cell(row: &[u8], k: usize, four: bool) -> usize
         return index % 16;
     }
     index
-}
-
-// The byte at k.
-fn byte(row: &[u8], k: usize) -> u64
-    requires { ⌜ k < length (now row) ⌝ }
-    ensures { λ r. ⌜ (r ≡ getD (now (row .entry)) k 0) × (r < 256) ⌝ }
-{
-    row[k] as u64
-}
-
-// Four bytes as one number, the first lowest.
-fn le32(row: &[u8], k: usize) -> u64
-    requires { ⌜ k + 4 ≤ length (now row) ⌝ }
-    ensures { λ r. ⌜ (r ≡ word (λ i. getD (now (row .entry)) i 0) k 4) × (r < 2 ^ 32) ⌝ }
-{
-    byte(row, k)
-        + byte(row, k + 1) * 0x100
-        + byte(row, k + 2) * 0x10000
-        + byte(row, k + 3) * 0x1000000
-}
-
-// Eight bytes, which are one load once compiled.
-fn le64(row: &[u8], k: usize) -> u64
-    requires { ⌜ k + 8 ≤ length (now row) ⌝ }
-    ensures { λ r. ⌜ r ≡ word (λ i. getD (now (row .entry)) i 0) k 8 ⌝ }
-{
-    le32(row, k) + le32(row, k + 4) * 0x100000000
 }
 
 // Eight bytes, each 0 where a cell from `k` on is the same as the next.
@@ -278,6 +257,55 @@ fn block_at(row: &[u8], at: usize, four: bool) -> Block
     block_from(row, at, four, v, run)
 }
 
+// Whole blocks: their bytes, and how many cells they code.
+struct Coded {
+    bytes: usize,
+    cells: usize,
+}
+
+// The block at `at`.
+fn one_block(row: &[u8], at: usize, four: bool) -> Coded
+    requires { ⌜ at < length (now row) ⌝ }
+    ensures { λ r. ⌜ Coding (depthOf four) (now (row .entry)) at (r .cells) (r .bytes) ⌝ }
+{
+    let b = block_at(row, at, four);
+    let bytes = b.len(four);
+    let cells = b.width();
+    Coded { bytes, cells }
+}
+
+// The blocks of depth 8 up to the end of the last run that ends in a window; no cells where none does.
+fn window_blocks(row: &[u8], at: usize) -> Coded
+    requires { ⌜ at + 65 ≤ length (now row) ⌝ }
+    ensures { λ r. ⌜ (r .cells ≡ 0) ⊎ Coding 8 (now (row .entry)) at (r .cells) (r .bytes) ⌝ }
+{
+    let e = flag_word(row, at);
+    let cells = whole_runs(e);
+    if cells == 0 {
+        return Coded { bytes: 0, cells: 0 };
+    }
+    let bytes = charge_below(e, cells);
+    Coded { bytes, cells }
+}
+
+// Blocks from `at` on: at depth 8 a window's, if it has any, and otherwise one.
+fn blocks_at(row: &[u8], at: usize, four: bool) -> Coded
+    requires { ⌜ at < length (now row) ⌝ }
+    ensures { λ r. ⌜ Coding (depthOf four) (now (row .entry)) at (r .cells) (r .bytes) ⌝ }
+{
+    if four {
+        return one_block(row, at, four);
+    }
+    if row.len() - at < 65 {
+        return one_block(row, at, four);
+    }
+    let blocks = window_blocks(row, at);
+    if blocks.cells == 0 {
+        return one_block(row, at, four);
+    }
+    blocks
+}
+
 // How many bytes a row's codes take.
 fn rle_row_len(row: &[u8], four: bool) -> usize
     ensures { λ r. ⌜ (r ≡ length (rowCodes (depthOf four) (now (row .entry)))) × (r ≤ 2 * length (now (row .entry))) ⌝ }
@@ -285,9 +313,9 @@ fn rle_row_len(row: &[u8], four: bool) -> usize
     let mut len: usize = 0;
     let mut at: usize = 0;
     while at < row.len() {
-        let b = block_at(row, at, four);
-        len += b.len(four);
-        at += b.width();
+        let blocks = blocks_at(row, at, four);
+        len += blocks.bytes;
+        at += blocks.cells;
     }
     len
 }

@@ -1,11 +1,11 @@
-use mathlib.Core.Path.{_≡_, refl, ap}
-use Prim.Native.Nat.{_+_, _-_, _≤_}
+use mathlib.Core.Path.{ap, _≡_}
 use native.Mathlib.Nat.{zero-add}
-use native.Mathlib.Omega.{arith}
-use lib.ListN.{length, drop}
-use Rattle.rows.specs.RleCodes.{depthOf, cells, codes, rowCodes}
 use Rattle.rows.proofs.RleBlocks.{depth-le}
 use Rattle.rows.proofs.RleBlocks as Codes
+use native.Mathlib.Omega.{arith}
+use lib.ListN.{length, drop}
+use Prim.Native.Nat.{_+_, _-_, _≤_}
+use Rattle.rows.specs.RleCodes.{depthOf, cells, codes, rowCodes}
 use Rattle.rows.proofs.rle.rle_row_len.Statement.{statement}
 use Rattle.rows.proofs.rle.rle_row_len.Tie as tie
 
@@ -17,42 +17,25 @@ abbrev μ-loop : tie.MeasureT-loop
 
 loop-holds : tie.Need-loop-holds Inv-loop μ-loop
 unfolding rowCodes
-loop-holds c = (omega arith, zero-add _)
+loop-holds c =
+    (omega arith, zero-add _)
 
-block-at-requires : tie.Need-block-at-requires Inv-loop μ-loop
-block-at-requires c κs = omega arith
-
-len-requires : tie.Need-len-requires Inv-loop μ-loop
-len-requires c κs =
-    let a = c .before .before .before .before .args in
-    Codes.sound-at (depthOf (a .four)) (depth-le (a .four)) (a .row .now) (c .before .before .loop .at) (omega arith) _ (c .block-at .ensures) .most
+blocks-at-requires : tie.Need-blocks-at-requires Inv-loop μ-loop
+blocks-at-requires c κs = omega arith
 
 add-len : tie.Need-add-len Inv-loop μ-loop
 add-len c =
     let a = c .before .before .before .before .before .args in
-    let t = Codes.turn (depthOf (a .four)) (depth-le (a .four)) (a .row .now) (c .before .before .before .loop .at) (omega arith) _ (c .before .block-at .ensures) _ _ refl (c .len .ensures) in
-    omega (arith, Codes.row-short (depthOf (a .four)) (depth-le (a .four)) (a .row .now))
-
-width-requires : tie.Need-width-requires Inv-loop μ-loop
-width-requires c κs = tt
+    omega (arith, Codes.row-short (depthOf (a .four)) (depth-le (a .four)) (a .row .now), c .before .blocks-at .ensures .2)
 
 add-at : tie.Need-add-at Inv-loop μ-loop
-add-at c =
-    let a = c .before .before .before .before .before .before .args in
-    let t = Codes.turn (depthOf (a .four)) (depth-le (a .four)) (a .row .now) (c .before .before .before .before .loop .at) (omega arith) _ (c .before .before .block-at .ensures) _ _ (c .width .ensures) (c .before .len .ensures) in
-    omega arith
+add-at c = omega arith
 
 loop-less : tie.Need-loop-less Inv-loop μ-loop
-loop-less c =
-    let a = c .before .before .before .before .before .before .args in
-    let t = Codes.turn (depthOf (a .four)) (depth-le (a .four)) (a .row .now) (c .before .before .before .before .loop .at) (omega arith) _ (c .before .before .block-at .ensures) _ _ (c .width .ensures) (c .before .len .ensures) in
-    omega arith
+loop-less c = omega arith
 
 loop-again : tie.Need-loop-again Inv-loop μ-loop
-loop-again c =
-    let a = c .before .before .before .before .before .before .args in
-    let t = Codes.turn (depthOf (a .four)) (depth-le (a .four)) (a .row .now) (c .before .before .before .before .loop .at) (omega arith) _ (c .before .before .block-at .ensures) _ _ (c .width .ensures) (c .before .len .ensures) in
-    omega arith
+loop-again c = omega arith
 
 returns : tie.Need-returns Inv-loop μ-loop
 returns c =
@@ -68,10 +51,8 @@ rle-row-len-spec =
     Inv-loop
     μ-loop
     loop-holds
-    block-at-requires
-    len-requires
+    blocks-at-requires
     add-len
-    width-requires
     add-at
     loop-less
     loop-again
