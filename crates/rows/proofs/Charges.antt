@@ -8,8 +8,11 @@ use native.Mathlib.Omega.{arith}
 use lib.Pow.{ones-split, ones-lt, high}
 use lib.Bits.{bitAnd, bitOr, bitXor, and-mask, and-le-r}
 use lib.Count.{ones, ones-le, leadingZeros, leading-of-zero, leading-top}
-use Rattle.rows.specs.Windows.{fromBits, total, before, lone, first, evenPlace, charged}
-use Rattle.rows.proofs.FromBits.{bits-ext, bits-and, bits-or, bits-xor, bits-not, bits-up, bits-add, bits-mod, bits-ones, bits-lt, bits-top, unlike, carry, summed}
+use borrow.Author.Tests.{lt-ltb, le-ltb}
+use lib.ListN.{length}
+use mathlib.Core.List.{List}
+use Rattle.rows.specs.Windows.{fromBits, total, twins, flagsAt, before, lone, first, evenPlace, charged}
+use Rattle.rows.proofs.FromBits.{bits-ext, bits-down, bits-and, bits-or, bits-xor, bits-not, bits-up, bits-add, bits-mod, bits-ones, bits-lt, bits-top, unlike, carry, summed}
 
 even : ℕ → Bool
 even zero = true
@@ -205,3 +208,25 @@ whole-law e f h = go (eq-zero-or-pos (endWord e))
         let a : 2 ^ (t .0) ≤ fromBits (ends f) (suc (t .0) + n) = subst (λ (z : ℕ). 2 ^ (t .0) ≤ z) (sym v) (t .2) in
         let b : fromBits (ends f) (suc (t .0) + n) < 2 ^ suc (t .0) = subst (λ (z : ℕ). z < 2 ^ suc (t .0)) (sym v) (t .3) in
         whole-at f (64 - n) (t .0) (omega (arith, t .1)) (omega arith) (bits-top (ends f) (t .0) n a b)
+
+-- ---- the flags of a window at a place
+
+-- a window within the row
+pub full : (row : List ℕ) (at : ℕ) → at + 65 ≤ length row → fromBits (twins row at) 64 ≡ fromBits (flagsAt row at) 64
+full row at h = bits-ext (twins row at) (flagsAt row at) 64 (λ k l. rw (lt-ltb (at + k + 1) (length row) (omega arith)))
+
+-- and one past its end: the flags of the row's last 65 cells, from the place on
+pub partial : (row : List ℕ) (at : ℕ) → 65 ≤ length row → length row - 65 < at → at + 2 ≤ length row
+    → fromBits (twins row (length row - 65)) 64 / 2 ^ (at - (length row - 65)) ≡ fromBits (flagsAt row at) 64
+partial row at some past h =
+    let last = length row - 65 in
+    let s = at - last in
+    let n = length row - 1 - at in
+    let p : s + n ≡ 64 = omega arith in
+    let q : n + s ≡ 64 = omega arith in
+    let d = bits-down (twins row last) (flagsAt row at) s n s
+    (λ k l.
+    let e : last + (s + k) ≡ at + k = omega arith in
+    rw (e, lt-ltb (at + k + 1) (length row) (omega arith)))
+    (λ k l. let z : length row ≤ at + (n + k) + 1 = omega arith in rw (le-ltb (at + (n + k) + 1) (length row) z)) in
+    rw (p, q) at d

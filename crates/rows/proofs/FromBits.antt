@@ -1,10 +1,10 @@
 -- Laws of words of flags: what the operations on numbers of n bits make of their bits.
 use mathlib.Core.Path.{_≡_, refl, sym, ap, ap₂, _∙_}
 use mathlib.Core.Bool.{Bool, true, false, not, cond, _&&_, _||_}
-use Prim.Native.Nat.{ℕ, zero, suc, _+_, _-_, _*_, _%_, _^_, _≤_, _<_}
+use Prim.Native.Nat.{ℕ, zero, suc, _+_, _-_, _*_, _/_, _%_, _^_, _≤_, _<_}
 use native.Mathlib.Nat.{pow-suc, suc-add, zero-add, mod-eq-of-lt}
 use native.Mathlib.Omega.{arith}
-use lib.Arith.{digits-mod}
+use lib.Arith.{digits-div, digits-mod}
 use lib.Dec.{lit<}
 use lib.Bits.{bitAnd, bitOr, bitXor, and-block, or-block, xor-block}
 use lib.Count.{ones, onesIn, ones-cat}
@@ -161,3 +161,14 @@ bits-top f j n a b = go (f j) refl
         let x : fromBits f (suc j) ≡ 0 * 2 ^ j + fromBits f j = bits-snoc f j ∙ ap (λ (z : Bool). bit z * 2 ^ j + fromBits f j) e in
         let z : ⊥ = omega (arith, bits-lt f j, low, x) in
         absurd z
+
+pub bits-none : (f : ℕ → Bool) (n : ℕ) → ((k : ℕ) → k < n → f k ≡ false) → fromBits f n ≡ 0
+unfolding fromBits
+bits-none f zero h = refl
+bits-none f (suc n) h = rw (h 0 (omega arith), bits-none (λ k. f (suc k)) n (λ k l. h (suc k) (omega arith)))
+
+-- the bits from s on, with none past the n-th, as m more bits
+pub bits-down : (f g : ℕ → Bool) (s n m : ℕ) → ((k : ℕ) → k < n → g k ≡ f (s + k)) → ((k : ℕ) → k < m → g (n + k) ≡ false) → fromBits f (s + n) / 2 ^ s ≡ fromBits g (n + m)
+bits-down f g s n m h z =
+    ap (λ (x : ℕ). x / 2 ^ s) (bits-append f s n) ∙ digits-div (fromBits (λ k. f (s + k)) n) (bits-lt f s)
+    ∙ sym (bits-append g n m ∙ ap (λ (x : ℕ). x * 2 ^ n + fromBits g n) (bits-none (λ k. g (n + k)) m z) ∙ omega (arith, bits-ext g (λ k. f (s + k)) n h))

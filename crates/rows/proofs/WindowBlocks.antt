@@ -1,8 +1,9 @@
 -- The block at a place of a row, from the flags of the cells there: of each cell whether the next one is equal.
 use mathlib.Core.Path.{_≡_, refl, sym, ap, ap₂, _∙_, subst}
 use mathlib.Core.Bool.{Bool, true, false, not}
+use mathlib.Core.Logic.{_⊎_, inl, inr}
 use mathlib.Core.List.{List}
-use Prim.Native.Nat.{ℕ, zero, suc, _+_, _*_, _/_, _≤_, _<_}
+use Prim.Native.Nat.{ℕ, zero, suc, _+_, _-_, _*_, _/_, _≤_, _<_, min}
 use native.Mathlib.Omega.{arith}
 use borrow.Author.Tests.{eqb-true, eqb-false, ne-eqb}
 use lib.Dec.{eqb}
@@ -10,7 +11,7 @@ use lib.ListN.{length, getD, drop}
 use Rattle.rows.specs.declared.rle.Block.the-variants.{Pair, Absolute}
 use Rattle.rows.specs.RleCodes.{cells, scan, same, lone, runLength, gatherLength, codes, dataBytes}
 use Rattle.rows.proofs.RleBlocks.{block-run, block-absolute, block-single, turn}
-use Rattle.rows.proofs.Scans.{scan-stop, scan-step, twin-at, Running, run-start, run-stop, run-on}
+use Rattle.rows.proofs.Scans.{scan-stop, scan-step, twin-at, Running, run-start, run-end, run-stop, run-on}
 
 abbrev pub flag : ℕ → List ℕ → ℕ → Bool
 flag d row p = eqb (getD (cells d row) p 0) (getD (cells d row) (p + 1) 0)
@@ -29,18 +30,27 @@ module _ (d : ℕ) (row : List ℕ) (p : ℕ) where
       let e : n + 1 + 1 ≡ suc n + 1 = omega arith in
       subst (λ (z : ℕ). Running d row p z) e (run-on d row p (n + 1) s (omega arith) (getD xs p 0) (getD xs (p + (n + 1)) 0) refl refl (omega arith) l)
 
-  -- a run of n + 2 cells that ends within the row
-  pub run-codes : d ≤ 8 → (n : ℕ) → p + n + 2 < length row → n + 2 ≤ 255 → ((i : ℕ) → i ≤ n → flag d row (p + i) ≡ true) → flag d row (p + n + 1) ≡ false
+  -- a run of n + 2 cells, which another cell or the row's end follows
+  pub run-codes : d ≤ 8 → (n : ℕ) → p + n + 2 ≤ length row → n + 2 ≤ 255 → ((i : ℕ) → i ≤ n → flag d row (p + i) ≡ true)
+      → ((p + n + 2 < length row) × (flag d row (p + n + 1) ≡ false)) ⊎ (length row ≤ p + n + 2)
       → length (codes d 0 (drop p (cells d row))) ≡ 2 + length (codes d 0 (drop (p + (n + 2)) (cells d row)))
   run-codes deep n h k f t =
       let xs = cells d row in
       let v = getD xs p 0 in
       let m : n + 1 + 1 ≡ n + 2 = omega arith in
       let s : Running d row p (n + 2) = subst (λ (z : ℕ). Running d row p z) m (ran (n + 1) (omega arith) (omega arith) (λ i l. f i (omega arith))) in
-      let o : (getD xs (p + (n + 2)) 0 ≡ v → ⊥) =
-      λ e. eqb-false _ _ t (ap (λ (z : ℕ). getD xs z 0) (omega arith) ∙ s .last ∙ sym e ∙ ap (λ (z : ℕ). getD xs z 0) (omega arith)) in
-      let r = run-stop d row p (n + 2) s (omega arith) v (getD xs (p + (n + 2)) 0) refl refl o in
-      turn d deep row p (omega arith) (Pair (n + 2) v v) (block-run xs p (n + 2) v r refl (omega arith)) (n + 2) 2 refl refl .split
+      turn d deep row p (omega arith) (Pair (n + 2) v v) (block-run xs p (n + 2) v (stopped s t) refl (omega arith)) (n + 2) 2 refl refl .split
+    where
+      stopped : Running d row p (n + 2) → ((p + n + 2 < length row) × (flag d row (p + n + 1) ≡ false)) ⊎ (length row ≤ p + n + 2)
+          → n + 2 ≡ runLength (getD (cells d row) p 0) (drop (p + 1) (cells d row))
+      stopped s (inr e) = run-end d row p (n + 2) s (min (length row - p) 255) refl (omega arith)
+      stopped s (inl e) =
+          let xs = cells d row in
+          let v = getD xs p 0 in
+          let o : (getD xs (p + (n + 2)) 0 ≡ v → ⊥) =
+          λ q. eqb-false _ _ (e .1) (ap (λ (z : ℕ). getD xs z 0) (omega arith) ∙ s .last ∙ sym q ∙ ap (λ (z : ℕ). getD xs z 0) (omega arith)) in
+          let y = e .0 in
+          run-stop d row p (n + 2) s (omega arith) v (getD xs (p + (n + 2)) 0) refl refl o
 
   -- ---- lone cells
 

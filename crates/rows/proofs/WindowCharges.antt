@@ -6,11 +6,11 @@ use mathlib.Core.List.{List}
 use Prim.Native.Nat.{ℕ, zero, suc, _+_, _-_, _*_, _%_, _≤_, _<_}
 use native.Mathlib.Nat.{add-zero, add-suc, mod-eq-of-lt}
 use native.Mathlib.Omega.{arith}
-use borrow.Author.Tests.{ltb-true, ltb-false}
+use borrow.Author.Tests.{ltb-true, ltb-false, lt-ltb}
 use lib.Dec.{T, ltb}
 use lib.ListN.{length, getD, drop}
 use Rattle.rows.specs.RleCodes.{cells, codes}
-use Rattle.rows.specs.Windows.{bit, total, twins, before, lone, first, evenPlace, charged, Coding}
+use Rattle.rows.specs.Windows.{bit, total, twins, flagsAt, before, lone, first, evenPlace, charged, Coding}
 use Rattle.rows.proofs.Scans.{cell-at}
 use Rattle.rows.proofs.WindowBlocks.{flag, half, run-codes, lone-codes}
 
@@ -184,9 +184,9 @@ module _ (e : ℕ → Bool) where
 
 -- ---- the window
 
--- a window's flags e at `at`, of which a run ends at cell u + 1
-module _ (row : List ℕ) (at : ℕ) (whole : at + 65 ≤ length row) (e : ℕ → Bool) (same : (k : ℕ) → k < 64 → flag 8 row (at + k) ≡ e k)
-    (u : ℕ) (some : u + 2 ≤ 64) (on : e u ≡ true) (off : e (u + 1) ≡ false) where
+-- a window's flags e at `at`, of which a run ends at cell u + 1: there another cell or the row's end follows
+module _ (row : List ℕ) (at : ℕ) (e : ℕ → Bool) (u : ℕ) (most : u + 2 ≤ 64) (within : at + u + 2 ≤ length row) (same : (k : ℕ) → k ≤ u → flag 8 row (at + k) ≡ e k)
+    (on : e u ≡ true) (off : e (u + 1) ≡ false) (end : ((at + u + 2 < length row) × (flag 8 row (at + u + 1) ≡ false)) ⊎ (length row ≤ at + u + 2)) where
   rest : ℕ → ℕ
   rest k = length (codes 8 0 (drop (at + k) (cells 8 row)))
 
@@ -200,7 +200,7 @@ module _ (row : List ℕ) (at : ℕ) (whole : at + 65 ≤ length row) (e : ℕ �
     starts : before e k ≡ false
     stretch : e k ≡ false → before (lone e) k ≡ false
 
-  flag-at : (k i p : ℕ) → k + i < 64 → p ≡ at + k + i → flag 8 row p ≡ e (k + i)
+  flag-at : (k i p : ℕ) → k + i ≤ u → p ≡ at + k + i → flag 8 row p ≡ e (k + i)
   flag-at k i p h q = let z : p ≡ at + (k + i) = omega arith in rw z (same (k + i) h)
 
   past-run : (k : ℕ) (c : Change e true k (u + 1 - k)) → k ≤ u + 1 → Fresh k → (Fresh (k + (c .j + 2)) → Balanced (k + (c .j + 2))) → Balanced k
@@ -210,7 +210,7 @@ module _ (row : List ℕ) (at : ℕ) (whole : at + 65 ≤ length row) (e : ℕ �
       let w = c .within in
       let a = run-codes 8 row (at + k) (omega arith) j (omega arith) (omega arith)
       (λ i l. flag-at k i (at + k + i) (omega arith) refl ∙ c .inside i l)
-      (flag-at k (j + 1) (at + k + j + 1) (omega arith) (omega arith) ∙ let q : k + (j + 1) ≡ k + j + 1 = omega arith in ap e q ∙ c .out) in
+      (after (ltb (k + j) u) refl) in
       let p : at + k + (j + 2) ≡ at + (k + (j + 2)) = omega arith in
       let t = run-total e k j (f .starts) (c .inside) in
       let q : k + (j + 2) ≡ suc (k + j + 1) = omega arith in
@@ -219,6 +219,19 @@ module _ (row : List ℕ) (at : ℕ) (whole : at + 65 ≤ length row) (e : ℕ �
       let l : before (lone e) (k + (j + 2)) ≡ false = rw (q, c .out, r, c .inside j (omega arith)) in
       let b = ih (record { starts = s; stretch = λ z. l }) in
       omega (arith, rw p at a)
+    where
+      after : (b : Bool) → ltb (k + c .j) u ≡ b
+          → ((at + k + c .j + 2 < length row) × (flag 8 row (at + k + c .j + 1) ≡ false)) ⊎ (length row ≤ at + k + c .j + 2)
+      after true b =
+          let l = ltb-true (k + c .j) u b in
+          let q : k + (c .j + 1) ≡ k + c .j + 1 = omega arith in
+          inl (omega arith, flag-at k (c .j + 1) (at + k + c .j + 1) (omega arith) (omega arith) ∙ ap e q ∙ c .out)
+      after false b =
+          let l = ltb-false (k + c .j) u b in
+          let w = c .within in
+          let x : at + k + c .j + 1 ≡ at + u + 1 = omega arith in
+          let y : at + k + c .j + 2 ≡ at + u + 2 = omega arith in
+          rw (x, y) end
 
   past-lone : (k : ℕ) (c : Change e false k (u - k)) → k ≤ u → e k ≡ false → Fresh k → (Fresh (k + (c .j + 1)) → Balanced (k + (c .j + 1))) → Balanced k
   unfolding Balanced rest
@@ -270,18 +283,54 @@ module _ (row : List ℕ) (at : ℕ) (whole : at + 65 ≤ length row) (e : ℕ �
 
 -- ---- as the code has it
 
-module _ (row : List ℕ) (at : ℕ) (whole : at + 65 ≤ length row) (bytes : (i : ℕ) → getD row i 0 < 256) where
+module _ (row : List ℕ) (at : ℕ) (bytes : (i : ℕ) → getD row i 0 < 256) where
   cell-byte : (k : ℕ) → getD (cells 8 row) k 0 ≡ getD row k 0
   cell-byte k = cell-at 8 row k ∙ mod-eq-of-lt (bytes k)
 
-  pub window-coding : (v n : ℕ) → 2 ≤ v → v ≤ 64 → twins row at (v - 2) ≡ true → twins row at (v - 1) ≡ false → n ≡ 2 * total (charged (twins row at)) v → Coding 8 row at v n
-  window-coding v n some most on off e =
+  flag-is : (k : ℕ) → flag 8 row (at + k) ≡ twins row at k
+  flag-is k = rw (cell-byte (at + k), cell-byte (at + k + 1))
+
+  -- a flag that is set is one of two cells of the row
+  set-inside : (k : ℕ) → flagsAt row at k ≡ true → at + k + 1 < length row
+  set-inside k h = go (ltb (at + k + 1) (length row)) refl h
+    where
+      go : (b : Bool) → ltb (at + k + 1) (length row) ≡ b → b && twins row at k ≡ true → at + k + 1 < length row
+      go true e h = ltb-true _ _ e
+      go false e h = absurd (subst T (sym h) tt)
+
+  unset : (k : ℕ) → flagsAt row at k ≡ false → ((at + k + 1 < length row) × (twins row at k ≡ false)) ⊎ (length row ≤ at + k + 1)
+  unset k h = go (ltb (at + k + 1) (length row)) refl h
+    where
+      go : (b : Bool) → ltb (at + k + 1) (length row) ≡ b → b && twins row at k ≡ false → ((at + k + 1 < length row) × (twins row at k ≡ false)) ⊎ (length row ≤ at + k + 1)
+      go true e h = inl (ltb-true _ _ e, h)
+      go false e h = inr (ltb-false _ _ e)
+
+  module _ (u : ℕ) (most : u + 2 ≤ 64) (on : flagsAt row at u ≡ true) (off : flagsAt row at (u + 1) ≡ false) where
+    end-is : ((at + u + 2 < length row) × (flag 8 row (at + u + 1) ≡ false)) ⊎ (length row ≤ at + u + 2)
+    end-is =
+        let p : at + (u + 1) + 1 ≡ at + u + 2 = omega arith in
+        let q : at + (u + 1) ≡ at + u + 1 = omega arith in
+        go p q (unset (u + 1) off)
+      where
+        go : at + (u + 1) + 1 ≡ at + u + 2 → at + (u + 1) ≡ at + u + 1
+            → ((at + (u + 1) + 1 < length row) × (twins row at (u + 1) ≡ false)) ⊎ (length row ≤ at + (u + 1) + 1)
+            → ((at + u + 2 < length row) × (flag 8 row (at + u + 1) ≡ false)) ⊎ (length row ≤ at + u + 2)
+        go p q (inl h) = inl (omega (arith, h .0), ap (flag 8 row) (sym q) ∙ flag-is (u + 1) ∙ h .1)
+        go p q (inr h) = inr (omega arith)
+
+    same-is : (k : ℕ) → k ≤ u → flag 8 row (at + k) ≡ flagsAt row at k
+    same-is k h = let i = set-inside u on in flag-is k ∙ rw (lt-ltb (at + k + 1) (length row) (omega arith))
+
+    window-coding : Coding 8 row at (u + 2) (2 * total (charged (flagsAt row at)) (u + 2))
+    window-coding =
+        let i = set-inside u on in
+        (omega arith, omega arith, window-codes row at (flagsAt row at) u most (omega arith) same-is on off end-is)
+
+  pub coded : (v n : ℕ) → (v ≡ 0) ⊎ ((2 ≤ v) × (v ≤ 64) × (flagsAt row at (v - 2) ≡ true) × (flagsAt row at (v - 1) ≡ false)) → (v ≡ 0 → ⊥)
+      → n ≡ 2 * total (charged (flagsAt row at)) v → (v ≡ 0) ⊎ Coding 8 row at v n
+  coded v n (inl z) some e = absurd (some z)
+  coded v n (inr w) some e =
+      let a = w .0 in
       let p : v - 2 + 1 ≡ v - 1 = omega arith in
       let q : v - 2 + 2 ≡ v = omega arith in
-      let s = window-codes row at whole (twins row at) (λ k h. rw (cell-byte (at + k), cell-byte (at + k + 1))) (v - 2) (omega arith) on (ap (twins row at) p ∙ off) in
-      (omega arith, omega arith, rw e (rw q at s))
-
-  pub coded : (v n : ℕ) → (v ≡ 0) ⊎ ((2 ≤ v) × (v ≤ 64) × (twins row at (v - 2) ≡ true) × (twins row at (v - 1) ≡ false)) → (v ≡ 0 → ⊥) → n ≡ 2 * total (charged (twins row at)) v
-      → (v ≡ 0) ⊎ Coding 8 row at v n
-  coded v n (inl z) some e = absurd (some z)
-  coded v n (inr w) some e = inr (window-coding v n (w .0) (w .1) (w .2) (w .3) e)
+      inr (rw e (rw q at (window-coding (v - 2) (omega (arith, w .1)) (w .2) (ap (flagsAt row at) p ∙ w .3))))

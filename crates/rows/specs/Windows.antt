@@ -3,7 +3,7 @@ use mathlib.Core.Bool.{Bool, true, false, not, cond, _&&_, _||_}
 use mathlib.Core.List.{List}
 use mathlib.Core.Path.{_≡_}
 use Prim.Native.Nat.{ℕ, zero, suc, _+_, _*_, _≤_}
-use lib.Dec.{eqb}
+use lib.Dec.{eqb, ltb}
 use lib.ListN.{length, getD, drop}
 use Rattle.rows.specs.RleCodes.{cells, codes}
 
@@ -24,6 +24,10 @@ total f (suc n) = total f n + bit (f n)
 -- whether the cell k after a place is equal to the one after it
 abbrev pub twins : List ℕ → ℕ → ℕ → Bool
 twins row at k = eqb (getD row (at + k) 0) (getD row (at + k + 1) 0)
+
+-- the flags of the window at a place: nothing is equal to what is past the row's end
+abbrev pub flagsAt : List ℕ → ℕ → ℕ → Bool
+flagsAt row at k = ltb (at + k + 1) (length row) && twins row at k
 
 -- what holds of the cell before; nothing of the window's first
 abbrev pub before : (ℕ → Bool) → ℕ → Bool

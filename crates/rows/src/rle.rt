@@ -16,8 +16,8 @@ ghost use Rattle.rows.specs.Windows.{Coding};
 ghost use Rattle.rows.specs.Words.{word, leading};
 use crate::pack::pack_bytes;
 use crate::windows::charge_below;
-use crate::windows::flag_word;
 use crate::windows::whole_runs;
+use crate::windows::window_flags;
 use crate::words::le64;
 use leaves::buffer::put_slice;
 use leaves::encoder::EncodedBmpFormat;
@@ -276,10 +276,10 @@ fn one_block(row: &[u8], at: usize, four: bool) -> Coded
 
 // The blocks of depth 8 up to the end of the last run that ends in a window; no cells where none does.
 fn window_blocks(row: &[u8], at: usize) -> Coded
-    requires { ⌜ at + 65 ≤ length (now row) ⌝ }
+    requires { ⌜ (65 ≤ length (now row)) × (at + 2 ≤ length (now row)) ⌝ }
     ensures { λ r. ⌜ (r .cells ≡ 0) ⊎ Coding 8 (now (row .entry)) at (r .cells) (r .bytes) ⌝ }
 {
-    let e = flag_word(row, at);
+    let e = window_flags(row, at);
     let cells = whole_runs(e);
     if cells == 0 {
         return Coded { bytes: 0, cells: 0 };
@@ -296,7 +296,10 @@ fn blocks_at(row: &[u8], at: usize, four: bool) -> Coded
     if four {
         return one_block(row, at, four);
     }
-    if row.len() - at < 65 {
+    if row.len() < 65 {
+        return one_block(row, at, four);
+    }
+    if row.len() - at < 2 {
         return one_block(row, at, four);
     }
     let blocks = window_blocks(row, at);

@@ -7,7 +7,7 @@ ghost use Prim.Native.Nat.{ℕ, _+_, _-_, _*_, _<_, _≤_};
 ghost use lib.Dec.{eqb};
 ghost use lib.ListN.{length, getD};
 ghost use Rattle.rows.specs.Words.{word};
-ghost use Rattle.rows.specs.Windows.{bit, fromBits, total, twins, charged};
+ghost use Rattle.rows.specs.Windows.{bit, fromBits, total, twins, flagsAt, charged};
 use crate::words::le64;
 
 fn same(a: u8, b: u8) -> u8
@@ -49,7 +49,7 @@ fn packed(flags: &[u8]) -> u64
 }
 
 // Bit k says that the cell k after `at` is equal to the one after it. The loop over bytes is vector code.
-pub fn flag_word(row: &[u8], at: usize) -> u64
+fn flag_word(row: &[u8], at: usize) -> u64
     requires { ⌜ at + 65 ≤ length (now row) ⌝ }
     ensures { λ r. ⌜ r ≡ fromBits (twins (now (row .entry)) at) 64 ⌝ }
 {
@@ -62,6 +62,18 @@ pub fn flag_word(row: &[u8], at: usize) -> u64
         k += 1;
     }
     packed(flags)
+}
+
+// The flags of the window at `at`: near the row's end from the row's last 65 cells.
+pub fn window_flags(row: &[u8], at: usize) -> u64
+    requires { ⌜ (65 ≤ length (now row)) × (at + 2 ≤ length (now row)) ⌝ }
+    ensures { λ r. ⌜ r ≡ fromBits (flagsAt (now (row .entry)) at) 64 ⌝ }
+{
+    let last = row.len() - 65;
+    if at <= last {
+        return flag_word(row, at);
+    }
+    flag_word(row, last) >> (at - last) as u32
 }
 
 // Bit k says that two bytes are charged to the cell k of the window. The sum carries through the stretches of

@@ -20,17 +20,14 @@ one-block-requires c κs = search needs
 returns : tie.Need-returns
 returns c = search needs
 
-sub-if2 : tie.Need-sub-if2
-sub-if2 c = search needs
-
 one-block-requires-2 : tie.Need-one-block-requires-2
 one-block-requires-2 c κs = search needs
 
 returns-2 : tie.Need-returns-2
 returns-2 c = search needs
 
-window-blocks-requires : tie.Need-window-blocks-requires
-window-blocks-requires c κs = search needs
+sub-if3 : tie.Need-sub-if3
+sub-if3 c = search needs
 
 one-block-requires-3 : tie.Need-one-block-requires-3
 one-block-requires-3 c κs = search needs
@@ -38,9 +35,17 @@ one-block-requires-3 c κs = search needs
 returns-3 : tie.Need-returns-3
 returns-3 c = search needs
 
+window-blocks-requires : tie.Need-window-blocks-requires
+window-blocks-requires c κs = search needs
+
+one-block-requires-4 : tie.Need-one-block-requires-4
+one-block-requires-4 c κs = search needs
+
 returns-4 : tie.Need-returns-4
-returns-4 c =
-    some-blocks _ _ _ _ _ (c .before .before .before .before .if1 .left) (c .before .before .window-blocks .ensures) (c .if3 .left)
+returns-4 c = search needs
+
+returns-5 : tie.Need-returns-5
+returns-5 c = some-blocks _ _ _ _ _ (c .before .before .before .before .before .if1 .left) (c .before .before .window-blocks .ensures) (c .if4 .left)
 
 pub blocks-at-spec : {M : Type 1} → statement M
 blocks-at-spec =
@@ -48,10 +53,12 @@ blocks-at-spec =
     (tie.spec
     one-block-requires
     returns
-    sub-if2
     one-block-requires-2
     returns-2
-    window-blocks-requires
+    sub-if3
     one-block-requires-3
     returns-3
-    returns-4)
+    window-blocks-requires
+    one-block-requires-4
+    returns-4
+    returns-5)
