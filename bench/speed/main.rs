@@ -3,7 +3,7 @@
 //! Both write into memory that is there before: the original appends to a Vec with capacity, the port into a lent buffer
 //! that is not cleared. Files are compared first. Rounds are interleaved, and of each side the least time counts; the
 //! spread is the least and the greatest ratio among five parts of the rounds, each with its own least times. The last
-//! column is a copy of the file's bytes. A second table has the port's time by the picture's size.
+//! column is a copy of the file's bytes. `speed FACTOR NAME` runs the workloads with NAME in their names. A second table has the port's time by the picture's size.
 
 #[path = "../differential/port.rs"]
 #[allow(dead_code)]
@@ -222,7 +222,8 @@ fn main() {
     println!("| workload | written as | bytes | port µs | original µs | port / original | spread | port / copy |");
     println!("|---|---|---|---|---|---|---|---|");
     let mut logs = Vec::new();
-    for w in workloads() {
+    let part = std::env::args().nth(2);
+    for w in workloads().into_iter().filter(|w| part.as_ref().is_none_or(|part| w.name.contains(part))) {
         let rounds = factor * if w.width * w.height > 1_000_000 { 25 } else { 200 };
         let (parts, format, len) = measure(&w, rounds);
         let t = parts.iter().copied().fold(Times::NONE, Times::least);
@@ -231,5 +232,7 @@ fn main() {
         println!("| {} | {} | {} | {:.1} | {:.1} | {:.2} | {:.2} to {:.2} | {:.2} |", w.name, format, len, t.port * 1e6, t.original * 1e6, t.ratio(), low, high, t.port / t.copy);
     }
     println!("\ngeometric mean of port / original: {:.2}", (logs.iter().sum::<f64>() / logs.len() as f64).exp());
-    growth(factor);
+    if part.is_none() {
+        growth(factor);
+    }
 }

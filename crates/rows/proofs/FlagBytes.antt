@@ -3,7 +3,6 @@ use mathlib.Core.Path.{_≡_, refl, sym, ap, ap₂, _∙_, subst}
 use mathlib.Core.Bool.{Bool, true, false, cond, false≢true}
 use Prim.Native.Nat.{ℕ, zero, suc, _+_, _*_, _/_, _%_, _^_, _≤_, _<_}
 use native.Mathlib.Omega.{arith}
-use native.Mathlib.Nat.{add-zero}
 use lib.Dec.{eqb, ltb}
 use lib.Bits.{bitAnd, bitOr, or-shifted-r}
 use lib.Pow.{shl-exact}
@@ -70,16 +69,6 @@ at-flags a b c d e f g h =
 pub low-law : (w : ℕ) (f : ℕ → Bool) → w ≡ word (λ k. bit (f k)) 0 8 → bitAnd (gather w) 255 ≡ fromBits f 8
 unfolding right flags word fromBits
 low-law w f h = ap (λ (z : ℕ). bitAnd (gather z) 255) h ∙ eqb-true _ _ (at-flags (f 0) (f 1) (f 2) (f 3) (f 4) (f 5) (f 6) (f 7))
-
--- bytes at other places
-pub word-moved : (f g : ℕ → ℕ) (n k j : ℕ) → ((i : ℕ) → i < n → f (k + i) ≡ g (j + i)) → word f k n ≡ word g j n
-unfolding word
-word-moved f g zero k j h = refl
-word-moved f g (suc n) k j h =
-    let e : f k ≡ g j = ap f (sym (add-zero k)) ∙ h 0 (omega arith) ∙ ap g (add-zero j) in
-    let m : (i : ℕ) → i < n → f (k + 1 + i) ≡ g (j + 1 + i) =
-    λ i l. let p : k + 1 + i ≡ k + suc i = omega arith in let q : j + suc i ≡ j + 1 + i = omega arith in ap f p ∙ h (suc i) (omega arith) ∙ ap g q in
-    rw (e, word-moved f g n (k + 1) (j + 1) m)
 
 -- ---- eight words of eight bits
 

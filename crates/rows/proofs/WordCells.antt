@@ -1,9 +1,8 @@
 -- Laws of eight cells of a row in one number.
-use mathlib.Core.Path.{_≡_, sym, ap, ap₂, _∙_}
+use mathlib.Core.Path.{_≡_, refl, sym, ap, ap₂, _∙_}
 use mathlib.Core.Bool.{Bool, true, false, not}
 use mathlib.Core.List.{List}
-use Prim.Native.Nat.{ℕ, _+_, _/_, _%_, _^_, _<_}
-use native.Mathlib.Nat.{mod-eq-of-lt}
+use Prim.Native.Nat.{ℕ, _+_, _-_, _/_, _^_, _<_}
 use native.Mathlib.Omega.{arith}
 use lib.Bits.{bitAnd, bitOr, bitXor, and-mask, xor-mod, xor-lt, xor-comm}
 use lib.Count.{trailingZeros}
@@ -12,7 +11,11 @@ use lib.ListN.{getD}
 use Rattle.rows.specs.RleCodes.{depthOf, cells}
 use Rattle.rows.specs.Words.{word, leading}
 use Rattle.rows.proofs.Scans.{cell-at}
-use Rattle.rows.proofs.WordLaws.{leading-ext, word-ext, word-next, word-and, word-xor, xor-test, zero-bytes-8, lone-bytes-8}
+use Rattle.rows.proofs.WordLaws.{leading-ext, word-ext, word-moved, word-next, word-and, word-xor, xor-test, zero-bytes-8, lone-bytes-8}
+
+mask-small : (four : Bool) → 2 ^ depthOf four - 1 < 256
+mask-small true = lit< tt
+mask-small false = lit< tt
 
 -- where the cells from a place on differ from the next, as a number
 module _ (row : List ℕ) (k : ℕ) (h : (i : ℕ) → getD row i 0 < 256) where
@@ -21,20 +24,14 @@ module _ (row : List ℕ) (k : ℕ) (h : (i : ℕ) → getD row i 0 < 256) where
       ap (bitXor (word (λ i. getD row i 0) k 8)) (word-next (λ i. getD row i 0) k 8)
       ∙ word-xor (λ i. getD row i 0) (λ i. getD row (i + 1) 0) h (λ i. h (i + 1)) k 8
 
-  module _ (four : Bool) (x y : ℕ) (ex : x ≡ word (λ i. getD row i 0) k 8) (ey : y ≡ word (λ i. getD row i 0) (k + 1) 8) where
-    pub differ-eight : four ≡ false → bitXor x y ≡ word (λ i. bitXor (getD (cells (depthOf four) row) i 0) (getD (cells (depthOf four) row) (i + 1) 0)) k 8
-    differ-eight e =
-        let c : (i : ℕ) → getD row i 0 ≡ getD (cells (depthOf four) row) i 0 = λ i. sym (ap (λ (b : Bool). getD (cells (depthOf b) row) i 0) e ∙ cell-at 8 row i ∙ mod-eq-of-lt (h i)) in
-        rw (ex, ey) raw ∙ word-ext _ _ (λ i. ap₂ bitXor (c i) (c (i + 1))) k 8
-
-    pub differ-four : four ≡ true → bitAnd (bitXor x y) 0x0F0F0F0F0F0F0F0F ≡ word (λ i. bitXor (getD (cells (depthOf four) row) i 0) (getD (cells (depthOf four) row) (i + 1) 0)) k 8
-    unfolding word
-    differ-four e =
-        let c : (i : ℕ) → getD row i 0 % 2 ^ 4 ≡ getD (cells (depthOf four) row) i 0 = λ i. sym (ap (λ (b : Bool). getD (cells (depthOf b) row) i 0) e ∙ cell-at 4 row i) in
-        let f : ℕ → ℕ = λ i. bitXor (getD row i 0) (getD row (i + 1) 0) in
-        ap (λ (z : ℕ). bitAnd z 0x0F0F0F0F0F0F0F0F) (ap₂ bitXor ex ey ∙ raw)
-        ∙ word-and f (λ i. 15) (λ i. xor-lt 8 (getD row i 0) (getD row (i + 1) 0) (h i) (h (i + 1))) (λ i. lit< tt) k 8
-        ∙ word-ext _ _ (λ i. and-mask (f i) 4 ∙ xor-mod (getD row i 0) (getD row (i + 1) 0) 4 ∙ ap₂ bitXor (c i) (c (i + 1))) k 8
+  pub differ : (four : Bool) (x y m : ℕ) → x ≡ word (λ i. getD row i 0) k 8 → y ≡ word (λ i. getD row i 0) (k + 1) 8 → m ≡ word (λ _. 2 ^ depthOf four - 1) 0 8
+      → bitAnd (bitXor x y) m ≡ word (λ i. bitXor (getD (cells (depthOf four) row) i 0) (getD (cells (depthOf four) row) (i + 1) 0)) k 8
+  differ four x y m ex ey em =
+      let d = depthOf four in
+      let f : ℕ → ℕ = λ i. bitXor (getD row i 0) (getD row (i + 1) 0) in
+      ap₂ bitAnd (ap₂ bitXor ex ey ∙ raw) (em ∙ word-moved (λ _. 2 ^ d - 1) (λ _. 2 ^ d - 1) 8 0 k (λ i l. refl))
+      ∙ word-and f (λ _. 2 ^ d - 1) (λ i. xor-lt 8 (getD row i 0) (getD row (i + 1) 0) (h i) (h (i + 1))) (λ i. mask-small four) k 8
+      ∙ word-ext _ _ (λ i. and-mask (f i) d ∙ xor-mod (getD row i 0) (getD row (i + 1) 0) d ∙ ap₂ bitXor (sym (cell-at d row i)) (sym (cell-at d row (i + 1)))) k 8
 
 -- how far they are the same, or not
 module _ (four : Bool) (row : List ℕ) (k x : ℕ) (e : x ≡ word (λ i. bitXor (getD (cells (depthOf four) row) i 0) (getD (cells (depthOf four) row) (i + 1) 0)) k 8) where

@@ -2,7 +2,7 @@
 use mathlib.Core.Path.{_≡_, refl, sym, ap, _∙_, subst}
 use mathlib.Core.Bool.{Bool, true, false, not, cond}
 use Prim.Native.Nat.{ℕ, zero, suc, _+_, _*_, _/_, _%_, _^_, _≤_, _<_, zero-le, suc-le-suc}
-use native.Mathlib.Nat.{pow-suc, not-suc-le-zero, lt-of-lt-of-le}
+use native.Mathlib.Nat.{add-zero, pow-suc, not-suc-le-zero, lt-of-lt-of-le}
 use native.Mathlib.Omega.{arith}
 use borrow.Author.Tests.{ltb-true, ltb-false, eqb-true, eqb-false, eq-eqb, ne-eqb}
 use lib.Arith.{lt-one}
@@ -47,6 +47,16 @@ pub word-ext : (f g : ℕ → ℕ) → ((i : ℕ) → f i ≡ g i) → (k n : �
 unfolding word
 word-ext f g h k zero = refl
 word-ext f g h k (suc n) = rw (h k, word-ext f g h (k + 1) n)
+
+-- bytes at other places
+pub word-moved : (f g : ℕ → ℕ) (n k j : ℕ) → ((i : ℕ) → i < n → f (k + i) ≡ g (j + i)) → word f k n ≡ word g j n
+unfolding word
+word-moved f g zero k j h = refl
+word-moved f g (suc n) k j h =
+    let e : f k ≡ g j = ap f (sym (add-zero k)) ∙ h 0 (omega arith) ∙ ap g (add-zero j) in
+    let m : (i : ℕ) → i < n → f (k + 1 + i) ≡ g (j + 1 + i) =
+    λ i l. let p : k + 1 + i ≡ k + suc i = omega arith in let q : j + suc i ≡ j + 1 + i = omega arith in ap f p ∙ h (suc i) (omega arith) ∙ ap g q in
+    rw (e, word-moved f g n (k + 1) (j + 1) m)
 
 -- the bytes from the next place on
 pub word-next : (f : ℕ → ℕ) (k n : ℕ) → word f (k + 1) n ≡ word (λ i. f (i + 1)) k n

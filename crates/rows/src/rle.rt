@@ -3,7 +3,7 @@ ghost use mathlib.Core.Path.{_≡_};
 ghost use mathlib.Core.Bool.{not, cond};
 ghost use mathlib.Core.Logic.{_⊎_};
 ghost use mathlib.Core.List.{[], _∷_, _++_};
-ghost use Prim.Native.Nat.{_+_, _*_, _<_, _≤_, _^_, min};
+ghost use Prim.Native.Nat.{_+_, _-_, _*_, _<_, _≤_, _^_, min};
 ghost use lib.Bits.{bitXor};
 ghost use lib.Dec.{eqb};
 ghost use lib.ListN.{length, getD, take, drop};
@@ -75,16 +75,29 @@ pub enum StreamCount {
     OverBudget,
 }
 
-// The cell at k: an index, cut to the depth.
+// The bits of a cell.
+fn cell_mask(four: bool) -> usize
+    ensures { λ r. ⌜ r ≡ 2 ^ depthOf four - 1 ⌝ }
+{
+    if four { 15 } else { 255 }
+}
+
+// The cell at k: an index, cut to the depth. By a mask, which does not change in a scan, it has no branch.
 fn cell(row: &[u8], k: usize, four: bool) -> usize
     requires { ⌜ k < length (now row) ⌝ }
     ensures { λ r. ⌜ (r ≡ getD (cells (depthOf four) (now (row .entry))) k 0) × (r < 2 ^ depthOf four) ⌝ }
 {
-    let index = row[k] as usize;
+    row[k] as usize & cell_mask(four)
+}
+
+// The bits of eight cells.
+fn cell_masks(four: bool) -> u64
+    ensures { λ r. ⌜ r ≡ word (λ _. 2 ^ depthOf four - 1) 0 8 ⌝ }
+{
     if four {
-        return index % 16;
+        return 0x0F0F0F0F0F0F0F0F;
     }
-    index
+    0xFFFFFFFFFFFFFFFF
 }
 
 // Eight bytes, each 0 where a cell from `k` on is the same as the next.
@@ -92,11 +105,7 @@ fn differences(row: &[u8], k: usize, four: bool) -> u64
     requires { ⌜ k + 8 < length (now row) ⌝ }
     ensures { λ r. ⌜ r ≡ word (λ i. bitXor (getD (cells (depthOf four) (now (row .entry))) i 0) (getD (cells (depthOf four) (now (row .entry))) (i + 1) 0)) k 8 ⌝ }
 {
-    let x = le64(row, k) ^ le64(row, k + 1);
-    if four {
-        return x & 0x0F0F0F0F0F0F0F0F;
-    }
-    x
+    (le64(row, k) ^ le64(row, k + 1)) & cell_masks(four)
 }
 
 // How many of the eight cells after `k` are the same as the one before, up to the first that is not.

@@ -1,33 +1,34 @@
-use mathlib.Core.Path.{_≡_, sym, ap, _∙_}
-use mathlib.Core.Bool.{Bool, true, false}
+use mathlib.Core.Bool.{Bool}
 use mathlib.Core.List.{List}
-use Prim.Native.Nat.{ℕ, _%_, _^_, _<_}
-use native.Mathlib.Nat.{mod-eq-of-lt}
-use native.Mathlib.Omega.{arith}
-use borrow.Author.Needs.{needs}
-use lib.ListN.{getD}
+use mathlib.Core.Path.{sym, _∙_, _≡_}
+use Prim.Native.Nat.{_^_, ℕ, _-_, _<_}
+use lib.Bits.{bitAnd, and-mask, mask-lt}
 use Rattle.rows.specs.RleCodes.{depthOf, cells}
 use Rattle.rows.proofs.Scans.{cell-at}
+use native.Mathlib.Omega.{arith}
+use lib.ListN.{getD}
+use borrow.Author.Needs.{needs}
 use Rattle.rows.proofs.rle.cell.Statement.{statement}
 use Rattle.rows.proofs.rle.cell.Tie as tie
 
-cut-four : (four : Bool) (row : List ℕ) (k : ℕ) → four ≡ true → getD row k 0 % 16 ≡ getD (cells (depthOf four) row) k 0
-cut-four four row k e = sym (ap (λ (b : Bool). getD (cells (depthOf b) row) k 0) e ∙ cell-at 4 row k)
+cut : (four : Bool) (row : List ℕ) (k m : ℕ) → m ≡ 2 ^ depthOf four - 1 → (bitAnd (getD row k 0) m ≡ getD (cells (depthOf four) row) k 0) × (bitAnd (getD row k 0) m < 2 ^ depthOf four)
+cut four row k m e =
+    let d = depthOf four in
+    rw e (and-mask (getD row k 0) d ∙ sym (cell-at d row k), mask-lt (getD row k 0) d)
 
-cut-eight : (four : Bool) (row : List ℕ) (k : ℕ) → four ≡ false → getD row k 0 < 256 → getD row k 0 ≡ getD (cells (depthOf four) row) k 0
-cut-eight four row k e h = sym (ap (λ (b : Bool). getD (cells (depthOf b) row) k 0) e ∙ cell-at 8 row k ∙ mod-eq-of-lt h)
+shared-slice-read-result : tie.Need-shared-slice-read-result
+shared-slice-read-result c = search needs
 
-shared-slice-read-index : tie.Need-shared-slice-read-index
-shared-slice-read-index c = search needs
+cast-result : tie.Need-cast-result
+cast-result c = omega (arith, c .before .shared-slice-known .given (c .before .before .args .k))
 
-cast-index : tie.Need-cast-index
-cast-index c = omega (arith, c .shared-slice-known .given (c .before .args .k))
+cell-mask-requires : tie.Need-cell-mask-requires
+cell-mask-requires c κs = search needs
 
 returns : tie.Need-returns
-returns c = let a = c .before .before .args in (cut-four (a .four) (a .row .now) (a .k) (c .if1 .taken), omega (arith, ap (λ (b : Bool). 2 ^ depthOf b) (c .if1 .taken)))
-
-returns-2 : tie.Need-returns-2
-returns-2 c = let a = c .before .before .args in let h = c .before .shared-slice-known .given (a .k) in (cut-eight (a .four) (a .row .now) (a .k) (c .if1 .left) (omega arith), omega (arith, ap (λ (b : Bool). 2 ^ depthOf b) (c .if1 .left)))
+returns c =
+    let a = c .before .before .before .args in
+    cut (a .four) (a .row .now) (a .k) _ (c .cell-mask .ensures)
 
 pub cell-spec : {M : Type 1} → statement M
-cell-spec = tie.close (tie.spec shared-slice-read-index cast-index returns returns-2)
+cell-spec = tie.close (tie.spec shared-slice-read-result cast-result cell-mask-requires returns)

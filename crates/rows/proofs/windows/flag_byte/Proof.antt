@@ -4,7 +4,7 @@ use native.Mathlib.Nat.{zero-add}
 use native.Mathlib.Omega.{arith}
 use lib.ListN.{getD}
 use Rattle.rows.specs.Windows.{bit}
-use Rattle.rows.proofs.FlagBytes.{word-moved}
+use Rattle.rows.proofs.WordLaws.{word-moved}
 use Rattle.rows.proofs.windows.flag_byte.Statement.{statement}
 use Rattle.rows.proofs.windows.flag_byte.Tie as tie
 
