@@ -1,7 +1,7 @@
 // The command: a sample surface, or a picture from files. `bmp_writer` runs it on the program's arguments.
 pub mod files;
 pub mod names;
-pub mod request;
+pub mod options;
 pub mod run;
 pub mod sample;
 pub mod words;

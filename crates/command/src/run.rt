@@ -1,5 +1,5 @@
 // The command's run.
-ghost use mathlib.Core.Path.{_≡_};
+ghost use Prim.Native.Nat.{_≤_};
 ghost use lib.ListN.{length};
 use crate::files::FileRead;
 use crate::files::checksum;
@@ -9,82 +9,80 @@ use crate::names::decimal;
 use crate::names::print_cause;
 use crate::names::print_written;
 use crate::names::text;
-use crate::request::Fault;
-use crate::request::Request;
-use crate::request::Trouble;
-use crate::request::asked;
+use crate::options::ICC;
+use crate::options::LINKED_ICC;
+use crate::options::OUT;
+use crate::options::PALETTE;
+use crate::options::PLANE;
+use crate::options::fault_at;
+use crate::options::first_fault;
+use crate::options::is_given;
+use crate::options::options_asked;
+use crate::options::source_asked;
+use crate::options::value_of;
 use crate::sample::mix;
 use crate::sample::paint;
-use crate::sample::palette_space;
-use crate::sample::plane_space;
-use crate::sample::source;
-use crate::words::Word;
+use crate::words::item;
 use crate::words::part;
 use crate::words::same;
-use crate::words::spelled;
-use crate::words::word_at;
-use leaves::encoder::EncodeSource;
+use crate::words::word;
 use leaves::encoder::EncodedBmpFormat;
 use leaves::error::Refusal;
-use leaves::options::EncodeOptions;
 use planner::encoder::Encoded;
 use planner::encoder::encode_into;
 use planner::plan::SizeBound;
 use planner::plan::encoded_size_bound;
 
+// The bytes of the buffer that a file is encoded into.
+const ROOM: usize = 4194304;
+
 fn help() {
     text(
-        b"Usage: bmp_writer                    paints a sample surface of 200 x 200 cells into grid.bmp\n",
+        b"Usage: bmp_writer                    paints a sample surface of 200 x 200 cells into grid.bmp
+       bmp_writer --plane FILE --width N --height N [OPTION ..] --out FILE
+       bmp_writer --help
+
+Encodes a raw plane as a BMP file, and prints its format, its bytes and the checksum of `cksum`, or
+'refused' with the cause; the file is then left alone. The exit status is always 0.
+
+  --plane FILE            rows from the top, at most 3145728 bytes
+  --format NAME           rgba, rgb24, bgra, bgr24, rgb555, rgb565, pal8, indexed4, indexed2 or indexed1 [pal8]
+  --width N, --height N   cells in a row, and rows
+  --stride N              bytes from one row of the plane to the next [a row's bytes]
+  --palette FILE          red, green, blue, alpha of each entry, at most 4096 bytes
+  --out FILE              the file to write, with FILE.part beside it until it is whole
+  --top-down              rows from the top, and no RLE
+  --minimal-palette       a colour table as long as the palette
+  --no-rle                stored rows even where RLE is shorter
+  --bitfields D,R,G,B,A   cells of D bits (16 or 32) with these masks
+  --calibrated-rgb LIST   nine endpoints and three gammas, as the header has them
+  --icc FILE              a colour profile to embed, at most 262144 bytes
+  --linked-icc FILE       a linked profile's bytes, taken before an embedded one, at most 4096
+  --no-embed-icc          --icc is not written
+  --rendering-intent N    of a file with a profile [4]
+
+Numbers are decimal, or hexadecimal after 0x; LIST has commas. Of an option given twice the last counts.
+A picture whose file may take more than 4194304 bytes is refused.
+",
     );
-    text(b"       bmp_writer --plane FILE --width N --height N [OPTION ..] --out FILE\n");
-    text(b"       bmp_writer --help\n");
-    text(b"\n");
-    text(
-        b"Encodes a raw plane as a BMP file, and prints its format, its bytes and the checksum of `cksum`, or\n",
-    );
-    text(b"'refused' with the cause; the file is then left alone. The exit status is always 0.\n");
-    text(b"\n");
-    text(b"  --plane FILE            rows from the top, at most 3145728 bytes\n");
-    text(
-        b"  --format NAME           rgba, rgb24, bgra, bgr24, rgb555, rgb565, pal8, indexed4, indexed2 or indexed1 [pal8]\n",
-    );
-    text(b"  --width N, --height N   cells in a row, and rows\n");
-    text(
-        b"  --stride N              bytes from one row of the plane to the next [a row's bytes]\n",
-    );
-    text(b"  --palette FILE          red, green, blue, alpha of each entry, at most 4096 bytes\n");
-    text(
-        b"  --out FILE              the file to write, with FILE.part beside it until it is whole\n",
-    );
-    text(b"  --top-down              rows from the top, and no RLE\n");
-    text(b"  --minimal-palette       a colour table as long as the palette\n");
-    text(b"  --no-rle                stored rows even where RLE is shorter\n");
-    text(b"  --bitfields D,R,G,B,A   cells of D bits (16 or 32) with these masks\n");
-    text(b"  --calibrated-rgb LIST   nine endpoints and three gammas, as the header has them\n");
-    text(b"  --icc FILE              a colour profile to embed, at most 262144 bytes\n");
-    text(
-        b"  --linked-icc FILE       a linked profile's bytes, taken before an embedded one, at most 4096\n",
-    );
-    text(b"  --no-embed-icc          --icc is not written\n");
-    text(b"  --rendering-intent N    of a file with a profile [4]\n");
-    text(b"\n");
-    text(
-        b"Numbers are decimal, or hexadecimal after 0x; LIST has commas. Of an option given twice the last counts.\n",
-    );
-    text(b"A picture whose file may take more than 4194304 bytes is refused.\n");
 }
 
 // ---- what is printed
+
+// How many bytes a file has, and its checksum.
+pub fn print_size(file: &[u8]) {
+    decimal(file.len() as u64);
+    text(b" bytes, cksum ");
+    decimal(checksum(file) as u64);
+    text(b"\n");
+}
 
 fn print_file(name: &[u8], format: EncodedBmpFormat, file: &[u8]) {
     text(name);
     text(b": ");
     print_written(format);
     text(b", ");
-    decimal(file.len() as u64);
-    text(b" bytes, cksum ");
-    decimal(checksum(file) as u64);
-    text(b"\n");
+    print_size(file);
 }
 
 fn print_refusal(why: Refusal) {
@@ -95,48 +93,38 @@ fn print_refusal(why: Refusal) {
     text(b"\n");
 }
 
-fn print_too_large(bound: SizeBound, room: usize) {
-    match bound {
-        SizeBound::Bytes(n) => {
-            text(b"refused, 15: the file may take ");
-            decimal(n as u64);
-            text(b" bytes, and this program has room for ");
-            decimal(room as u64);
-            text(b"\n");
-        }
-        SizeBound::Refused(why) => print_refusal(why),
-    }
+fn print_too_large(bound: usize) {
+    text(b"refused, 15: the file may take ");
+    decimal(bound as u64);
+    text(b" bytes, and this program has room for 4194304\n");
 }
 
-fn print_fault(word: &[u8], trouble: Trouble) {
+// Says what is wrong with a word.
+fn print_trouble(word: &[u8], trouble: &[u8]) {
     text(b"refused: ");
     text(word);
-    let fault = trouble.fault;
-    match fault {
-        Fault::Nothing => text(b" is understood"),
-        Fault::UnknownOption => text(b" is no option"),
-        Fault::NoValue => text(b" has no value, or is no option"),
-        Fault::NotANumber => text(b" has no number in its range"),
-        Fault::UnknownFormat => text(b" names no format"),
-        Fault::NotMasks => text(b" has no depth and four masks"),
-        Fault::NotCalibrated => text(b" has no nine endpoints and three gammas"),
-    }
+    text(trouble);
+}
+
+// Says what is wrong with the option at a place: the line of its fault's number.
+fn print_fault(words: &[u8], at: usize)
+    requires { ⌜ at ≤ length (now words) ⌝ }
+{
+    let faults = b" is understood
+ is no option
+ has no value, or is no option
+ has no number in its range
+ names no format
+ has no depth and four masks
+ has no nine endpoints and three gammas";
+    print_trouble(word(words, at), item(faults, fault_at(words, at), b'\n'));
     text(b" (--help lists the options)\n");
 }
 
-// Says what is wrong with a file that should have been read.
-fn print_unread(name: &[u8], what: FileRead, most: usize) {
-    text(b"refused: ");
-    text(name);
-    match what {
-        FileRead::Whole(n) => text(b" was read\n"),
-        FileRead::Failed => text(b" cannot be read\n"),
-        FileRead::TooLong => {
-            text(b" is longer than ");
-            decimal(most as u64);
-            text(b" bytes, the most that this program takes\n");
-        }
-    }
+fn print_too_long(name: &[u8], most: usize) {
+    print_trouble(name, b" is longer than ");
+    decimal(most as u64);
+    text(b" bytes, the most that this program takes\n");
 }
 
 // ---- encoding
@@ -146,183 +134,133 @@ fn finish(name: &[u8], format: EncodedBmpFormat, file: &[u8]) {
         print_file(name, format, file);
         return;
     }
-    text(b"refused: ");
-    text(name);
-    text(b" cannot be written\n");
+    print_trouble(name, b" cannot be written\n");
 }
 
 // Encodes into out, and writes the file.
-fn encode<'a>(
-    name: &[u8],
-    source: EncodeSource,
-    options: EncodeOptions,
-    plane: &[u8],
-    palette: &[u8],
-    icc: &'a [u8],
-    linked_icc: &'a [u8],
-    out: &mut [u8],
-) {
-    let encoded = encode_into(source, options, plane, palette, icc, linked_icc, out, 0);
-    match encoded {
-        Encoded::File(format, bytes) => finish(name, format, part(out, 0, bytes)),
-        Encoded::Refused(why) => {
-            if why.number() == 15 {
-                let bound = encoded_size_bound(source, options, plane, palette, icc, linked_icc);
-                print_too_large(bound, out.len());
-                return;
-            }
-            print_refusal(why);
-        }
-    }
-}
-
 fn encode_in<'a>(
-    name: &[u8],
-    source: EncodeSource,
-    options: EncodeOptions,
+    words: &[u8],
     plane: &[u8],
     palette: &[u8],
     icc: &'a [u8],
     linked_icc: &'a [u8],
     out: &mut [u8; 4194304],
 ) {
-    encode(name, source, options, plane, palette, icc, linked_icc, out)
+    let source = source_asked(words);
+    let options = options_asked(words);
+    let encoded = encode_into(source, options, plane, palette, icc, linked_icc, out, 0);
+    match encoded {
+        Encoded::File(format, bytes) => {
+            finish(value_of(words, OUT), format, part(out, 0, bytes));
+        }
+        Encoded::Refused(why) => print_refusal(why),
+    }
 }
 
-fn encode_in_room<'a>(
-    name: &[u8],
-    source: EncodeSource,
-    options: EncodeOptions,
-    plane: &[u8],
-    palette: &[u8],
-    icc: &'a [u8],
-    linked_icc: &'a [u8],
-) {
-    let mut out = [0u8; 4194304];
-    encode_in(
-        name,
-        source,
-        options,
-        plane,
-        palette,
-        icc,
-        linked_icc,
-        &mut out,
-    )
+// Encodes where there is room for the file.
+fn encode<'a>(words: &[u8], plane: &[u8], palette: &[u8], icc: &'a [u8], linked_icc: &'a [u8]) {
+    let source = source_asked(words);
+    let options = options_asked(words);
+    let bound = encoded_size_bound(source, options, plane, palette, icc, linked_icc);
+    match bound {
+        SizeBound::Bytes(n) => {
+            if n > ROOM {
+                print_too_large(n);
+                return;
+            }
+            let mut out = [0u8; 4194304];
+            encode_in(words, plane, palette, icc, linked_icc, &mut out);
+        }
+        SizeBound::Refused(why) => print_refusal(why),
+    }
 }
 
 // ---- the sample
 
-fn sample() {
-    let mut cells = plane_space();
-    let plane: &mut [u8] = &mut cells;
+// The sample is encoded as a command would ask for it.
+fn sample_in(plane: &mut [u8; 40000], palette: &mut [u8; 1024]) {
     paint(plane);
-    let mut colours = palette_space();
-    let palette: &mut [u8] = &mut colours;
     mix(palette);
-    let none = [0u8; 0];
-    encode_in_room(
-        b"grid.bmp",
-        source(),
-        EncodeOptions::new(),
-        plane,
-        palette,
-        &none,
-        &none,
-    );
+    let words = b"--palette\0\0--width\0200\0--height\0200\0--out\0grid.bmp\0";
+    encode(words, plane, palette, b"", b"");
+}
+
+fn sample() {
+    let mut plane = [0u8; 40000];
+    let mut palette = [0u8; 1024];
+    sample_in(&mut plane, &mut palette);
 }
 
 // ---- files
 
-fn icc_space() -> [u8; 262144]
-    ensures { λ r. ⌜ 262144 ≡ length r ⌝ }
-{
-    [0; 262144]
-}
-
-// How many bytes a file has, or nothing where it was refused.
-enum Length {
-    Bytes(usize),
-    Nothing,
-}
-
-// Reads a file that may be absent.
-fn length_read(wanted: bool, name: &[u8], buf: &mut [u8]) -> Length {
-    if !wanted {
-        return Length::Bytes(0);
+// Reads the file that an option names, and says why where it cannot; no bytes where none is named.
+fn read_asked(words: &[u8], option: usize, buf: &mut [u8]) -> FileRead {
+    if !is_given(words, option) {
+        return FileRead::Whole(0);
     }
-    let what = read_file(name, buf);
-    if let FileRead::Whole(n) = what {
-        return Length::Bytes(n);
+    let name = value_of(words, option);
+    let read = read_file(name, buf);
+    match read {
+        FileRead::Whole(n) => {}
+        FileRead::TooLong => print_too_long(name, buf.len()),
+        FileRead::Failed => print_trouble(name, b" cannot be read\n"),
     }
-    print_unread(name, what, buf.len());
-    Length::Nothing
+    read
 }
 
-// Reads the profiles, and encodes.
-fn with_profiles<'a>(
+// Reads a linked profile, and encodes.
+fn with_linked_icc<'a>(
     words: &[u8],
-    request: Request,
     plane: &[u8],
     palette: &[u8],
-    icc: &'a mut [u8],
+    icc: &'a [u8],
     linked_icc: &'a mut [u8],
 ) {
-    let source = request.source;
-    let Length::Bytes(n) = length_read(source.has_icc, spelled(words, request.icc), icc) else {
+    let FileRead::Whole(n) = read_asked(words, LINKED_ICC, linked_icc) else {
         return;
     };
-    let Length::Bytes(m) = length_read(
-        source.has_linked_icc,
-        spelled(words, request.linked_icc),
-        linked_icc,
-    ) else {
-        return;
-    };
-    encode_in_room(
-        spelled(words, request.out),
-        source,
-        request.options,
-        plane,
-        palette,
-        part(icc, 0, n),
-        part(linked_icc, 0, m),
-    );
+    encode(words, plane, palette, icc, part(linked_icc, 0, n));
 }
 
-fn with_palette(words: &[u8], request: Request, plane: &[u8], palette: &mut [u8]) {
-    let source = request.source;
-    let Length::Bytes(n) = length_read(source.has_palette, spelled(words, request.palette), palette)
-    else {
+fn with_icc(words: &[u8], plane: &[u8], palette: &[u8], icc: &mut [u8; 262144]) {
+    let FileRead::Whole(n) = read_asked(words, ICC, icc) else {
         return;
     };
-    let mut icc = icc_space();
     let mut linked_icc = io::buffer();
-    with_profiles(
-        words,
-        request,
-        plane,
-        part(palette, 0, n),
-        &mut icc,
-        &mut linked_icc,
-    );
+    with_linked_icc(words, plane, palette, part(icc, 0, n), &mut linked_icc);
 }
 
-fn with_plane(words: &[u8], request: Request, plane: &mut [u8; 3145728]) {
-    let Length::Bytes(n) = length_read(true, spelled(words, request.plane), plane) else {
+fn with_palette(words: &[u8], plane: &[u8], palette: &mut [u8; 4096]) {
+    let FileRead::Whole(n) = read_asked(words, PALETTE, palette) else {
         return;
     };
-    let mut palette = io::buffer();
-    with_palette(words, request, part(plane, 0, n), &mut palette);
+    let mut icc = [0u8; 262144];
+    with_icc(words, plane, part(palette, 0, n), &mut icc);
 }
 
-fn encode_files(words: &[u8], request: Request) {
-    let mut plane = [0u8; 3145728];
-    with_plane(words, request, &mut plane);
+fn with_plane(words: &[u8], plane: &mut [u8; 3145728]) {
+    let FileRead::Whole(n) = read_asked(words, PLANE, plane) else {
+        return;
+    };
+    let mut palette = [0u8; 4096];
+    with_palette(words, part(plane, 0, n), &mut palette);
 }
 
-fn is_missing(name: Word) -> bool {
-    name.from >= name.to
+// Whether an option that names a file is given with a name; says so where it is not.
+fn has_file(words: &[u8], option: usize, asked: &[u8]) -> bool {
+    let name = value_of(words, option);
+    if name.len() > 0 {
+        return true;
+    }
+    print_trouble(asked, b" is missing (--help lists the options)\n");
+    false
+}
+
+fn encode_files(words: &[u8]) {
+    if has_file(words, PLANE, b"--plane FILE") && has_file(words, OUT, b"--out FILE") {
+        let mut plane = [0u8; 3145728];
+        with_plane(words, &mut plane);
+    }
 }
 
 // Runs a command's words, each with a 0 after it; none of them paints the sample.
@@ -331,24 +269,14 @@ pub fn run(words: &[u8]) {
         sample();
         return;
     }
-    let first = word_at(words, 0);
-    if same(spelled(words, first), b"--help") {
+    if same(word(words, 0), b"--help") {
         help();
         return;
     }
-    let request = asked(words);
-    let trouble = request.trouble;
-    if trouble.found {
-        print_fault(spelled(words, request.at), trouble);
+    let at = first_fault(words);
+    if at < words.len() {
+        print_fault(words, at);
         return;
     }
-    if is_missing(request.plane) {
-        text(b"refused: --plane FILE is missing (--help lists the options)\n");
-        return;
-    }
-    if is_missing(request.out) {
-        text(b"refused: --out FILE is missing (--help lists the options)\n");
-        return;
-    }
-    encode_files(words, request);
+    encode_files(words);
 }

@@ -1,9 +1,5 @@
 // The sample: a smile-shaped surface of 200 x 200 cells, and a palette for it.
-ghost use mathlib.Core.Path.{_≡_};
 ghost use Prim.Native.Nat.{_<_, _≤_};
-ghost use lib.ListN.{length};
-use leaves::encoder::EncodeSource;
-use leaves::image::BmpPixelFormat;
 
 pub const SIDE: usize = 200;
 
@@ -37,18 +33,6 @@ fn surface(x: usize, y: usize) -> u8
 {
     let level = ratio(square(distance(x)) * 153, 121 * (60 + y)) + y / 4;
     if level < 255 { level as u8 } else { 255 }
-}
-
-pub fn plane_space() -> [u8; 40000]
-    ensures { λ r. ⌜ 40000 ≡ length r ⌝ }
-{
-    [0; 40000]
-}
-
-pub fn palette_space() -> [u8; 1024]
-    ensures { λ r. ⌜ 1024 ≡ length r ⌝ }
-{
-    [0; 1024]
 }
 
 // Puts the surface into a plane.
@@ -112,17 +96,5 @@ pub fn mix(palette: &mut [u8]) {
     while i < palette.len() {
         palette[i] = shade(i / 4 % 256, i % 4);
         i += 1;
-    }
-}
-
-pub fn source() -> EncodeSource {
-    EncodeSource {
-        format: BmpPixelFormat::Pal8,
-        width: 200,
-        height: 200,
-        stride: 200,
-        has_palette: true,
-        has_icc: false,
-        has_linked_icc: false,
     }
 }

@@ -1,28 +1,9 @@
 // A command's words and the numbers among them. The words stand one behind another, a 0 after each.
-ghost use mathlib.Core.Path.{_≡_};
 ghost use Prim.Native.Nat.{_<_, _≤_, _^_};
 ghost use lib.ListN.{length};
 
-// A word's place.
-pub struct Word {
-    pub from: usize,
-    pub to: usize,
-}
-
-pub enum Number {
-    Is(u64),
-    Not,
-}
-
-pub enum Number32 {
-    Is(u32),
-    Not,
-}
-
-pub enum Signed32 {
-    Is(i32),
-    Not,
-}
+// What stands for no number: 2^60.
+pub const NOT_A_NUMBER: u64 = 0x1000_0000_0000_0000;
 
 // The bytes of a slice from one place to another; none where that is no part of it.
 pub fn part<'a>(bytes: &'a [u8], from: usize, to: usize) -> &'a [u8] {
@@ -32,24 +13,27 @@ pub fn part<'a>(bytes: &'a [u8], from: usize, to: usize) -> &'a [u8] {
     &bytes[0..0]
 }
 
-// The bytes of a word.
-pub fn spelled<'a>(words: &'a [u8], word: Word) -> &'a [u8] {
-    part(words, word.from, word.to)
-}
-
-// The word that starts at `at`.
-pub fn word_at(words: &[u8], at: usize) -> Word
-    requires { ⌜ at ≤ length (now words) ⌝ }
-    ensures { λ r. ⌜ (r .from ≡ at) × (at ≤ r .to) × (r .to ≤ length (now (words .entry))) ⌝ }
+// Where the piece of a text that starts at a place ends: at the mark behind it, or with the text.
+pub fn end_of(text: &[u8], at: usize, mark: u8) -> usize
+    requires { ⌜ at ≤ length (now text) ⌝ }
+    ensures { λ r. ⌜ (at ≤ r) × (r ≤ length (now (text .entry))) ⌝ }
 {
     let mut to = at;
-    while to < words.len() {
-        if words[to] == 0 {
-            break;
+    while to < text.len() {
+        if text[to] == mark {
+            return to;
         }
         to += 1;
     }
-    Word { from: at, to }
+    to
+}
+
+// The word that starts at a place.
+pub fn word<'a>(words: &'a [u8], at: usize) -> &'a [u8]
+    requires { ⌜ at ≤ length (now words) ⌝ }
+{
+    let to = end_of(words, at, 0);
+    part(words, at, to)
 }
 
 pub fn same(a: &[u8], b: &[u8]) -> bool {
@@ -66,36 +50,15 @@ pub fn same(a: &[u8], b: &[u8]) -> bool {
     true
 }
 
-// A digit's value; 16 for any other byte.
+// A digit's value: its place among the digits; 16 for any other byte.
 fn digit(byte: u8) -> u64
     ensures { λ r. ⌜ r ≤ 16 ⌝ }
 {
-    if byte < b'0' {
-        return 16;
+    let place = end_of(b"0123456789abcdefABCDEF", 0, byte);
+    if place < 16 {
+        return place as u64;
     }
-    if byte <= b'9' {
-        return (byte - b'0') as u64;
-    }
-    if byte < b'A' {
-        return 16;
-    }
-    if byte <= b'F' {
-        return (byte - b'A' + 10) as u64;
-    }
-    if byte < b'a' {
-        return 16;
-    }
-    if byte <= b'f' {
-        return (byte - b'a' + 10) as u64;
-    }
-    16
-}
-
-fn is_hex(text: &[u8]) -> bool {
-    if text.len() < 2 {
-        return false;
-    }
-    text[0] == b'0' && text[1] == b'x'
+    (place - 6) as u64
 }
 
 // A number with one more digit.
@@ -110,139 +73,128 @@ fn appended(number: u64, base: u64, digit: u64) -> u64
     number * 10 + digit
 }
 
-// Digits from a place on, in base 10 or 16; no more than 2^60.
-fn digits(text: &[u8], from: usize, base: u64) -> Number
+// The number that digits in base 10 or 16 are, below 2^60.
+fn digits(text: &[u8], base: u64) -> u64
     requires { ⌜ base ≤ 16 ⌝ }
 {
+    if text.len() == 0 {
+        return NOT_A_NUMBER;
+    }
     let mut number: u64 = 0;
-    let mut i = from;
+    let mut i = 0;
     while i < text.len() {
         let d = digit(text[i]);
         if d >= base || number >= 0x0100_0000_0000_0000 {
-            return Number::Not;
+            return NOT_A_NUMBER;
         }
         number = appended(number, base, d);
         i += 1;
     }
-    Number::Is(number)
+    number
 }
 
-// A number without a sign, decimal or after 0x hexadecimal.
-pub fn to_number(text: &[u8]) -> Number {
-    if text.len() == 0 {
-        return Number::Not;
+// The number without a sign that a text is, decimal or after 0x hexadecimal.
+pub fn number(text: &[u8]) -> u64 {
+    if same(part(text, 0, 2), b"0x") {
+        return digits(part(text, 2, text.len()), 16);
     }
-    if !is_hex(text) {
-        return digits(text, 0, 10);
-    }
-    if text.len() == 2 {
-        return Number::Not;
-    }
-    digits(text, 2, 16)
+    digits(text, 10)
 }
 
-pub fn to_number32(text: &[u8]) -> Number32 {
-    match to_number(text) {
-        Number::Is(n) => {
-            if n <= 0xFFFF_FFFF {
-                return Number32::Is(n as u32);
-            }
-            Number32::Not
-        }
-        Number::Not => Number32::Not,
-    }
+pub fn is_number(text: &[u8]) -> bool {
+    number(text) != NOT_A_NUMBER
 }
 
-// n below 0; no more than 2^31.
-fn negated(n: u32) -> Signed32 {
-    if n == 0 {
-        return Signed32::Is(0);
-    }
-    if n > 0x8000_0000 {
-        return Signed32::Not;
-    }
-    let below = (n - 1) as i32;
-    Signed32::Is(!below)
+pub fn is_number32(text: &[u8]) -> bool {
+    number(text) <= 0xFFFF_FFFF
 }
 
-fn without_sign(n: u32) -> Signed32 {
-    if n > 0x7FFF_FFFF {
-        return Signed32::Not;
-    }
-    Signed32::Is(n as i32)
+// The number of 32 bits that a text is; 0 where it is none.
+pub fn number32(text: &[u8]) -> u32 {
+    (number(text) % 0x1_0000_0000) as u32
 }
 
 fn is_negative(text: &[u8]) -> bool {
-    if text.len() == 0 {
-        return false;
-    }
-    text[0] == b'-'
+    same(part(text, 0, 1), b"-")
 }
 
-// A number that may have a minus sign.
-pub fn to_signed32(text: &[u8]) -> Signed32 {
-    let negative = is_negative(text);
-    let from: usize = if negative { 1 } else { 0 };
-    match to_number32(part(text, from, text.len())) {
-        Number32::Is(n) => {
-            if negative {
-                return negated(n);
-            }
-            without_sign(n)
-        }
-        Number32::Not => Signed32::Not,
+// The number behind a minus sign, or without one.
+fn magnitude(text: &[u8]) -> u64 {
+    if is_negative(text) {
+        return number(part(text, 1, text.len()));
     }
+    number(text)
 }
 
-// 1 for a comma, otherwise 0.
-fn comma(byte: u8) -> usize
+pub fn is_signed32(text: &[u8]) -> bool {
+    let most = if is_negative(text) {
+        0x8000_0000
+    } else {
+        0x7FFF_FFFF
+    };
+    magnitude(text) <= most
+}
+
+// The number with or without a sign that a text is; 0 where it is none.
+pub fn signed32(text: &[u8]) -> i32 {
+    let n = magnitude(text) % 0x1_0000_0000;
+    if n > 0 && is_negative(text) {
+        let below = ((n - 1) % 0x8000_0000) as i32;
+        return !below;
+    }
+    (n % 0x8000_0000) as i32
+}
+
+// 1 for the mark, otherwise 0.
+fn marks(byte: u8, mark: u8) -> usize
     ensures { λ r. ⌜ r ≤ 1 ⌝ }
 {
-    if byte == b',' { 1 } else { 0 }
+    if byte == mark { 1 } else { 0 }
 }
 
-// Where item k of a list with commas starts; past the end where there is none.
-fn item_start(text: &[u8], k: usize) -> usize {
+// Where item k of a list starts; its end where there is none.
+fn item_start(list: &[u8], k: usize, mark: u8) -> usize
+    ensures { λ r. ⌜ r ≤ length (now (list .entry)) ⌝ }
+{
     let mut left = k;
     let mut i = 0;
-    while i < text.len() {
+    while i < list.len() {
         if left == 0 {
             return i;
         }
-        left -= comma(text[i]);
-        i += 1;
-    }
-    if left > 0 {
-        return i + 1;
-    }
-    i
-}
-
-fn item_end(text: &[u8], from: usize) -> usize {
-    let mut i = from;
-    while i < text.len() {
-        if text[i] == b',' {
-            return i;
-        }
+        left -= marks(list[i], mark);
         i += 1;
     }
     i
 }
 
-// Item k of a list with commas; empty where there is none.
-pub fn item<'a>(text: &'a [u8], k: usize) -> &'a [u8] {
-    let from = item_start(text, k);
-    let to = item_end(text, from);
-    part(text, from, to)
+// Item k of a list with a mark between its items; empty where there is none.
+pub fn item<'a>(list: &'a [u8], k: usize, mark: u8) -> &'a [u8] {
+    let from = item_start(list, k, mark);
+    let to = end_of(list, from, mark);
+    part(list, from, to)
 }
 
 // How many items a list with commas has.
-pub fn items(text: &[u8]) -> usize {
+pub fn items(list: &[u8]) -> usize {
     let mut count: usize = 1;
     let mut i = 0;
-    while i < text.len() {
-        count += comma(text[i]);
+    while i < list.len() {
+        count += marks(list[i], b',');
         i += 1;
     }
     count
+}
+
+// Which item of a list with commas a name is, from 0; how many items there are where it is none.
+pub fn place_in(list: &[u8], name: &[u8]) -> usize {
+    let count = items(list);
+    let mut k = 0;
+    while k < count {
+        if same(item(list, k, b','), name) {
+            return k;
+        }
+        k += 1;
+    }
+    k
 }

@@ -1,19 +1,16 @@
 // Runs the command lines that come on standard input, and prints after each what out.bmp then is. A line
 // 'zeros NAME N' is not a command: it makes a file of N zero bytes.
-ghost use Prim.Native.Nat.{_≤_};
-ghost use lib.ListN.{length};
 use command::files::FileRead;
-use command::files::checksum;
 use command::files::read_file;
-use command::names::decimal;
 use command::names::text;
+use command::run::print_size;
 use command::run::run;
-use command::words::Number;
+use command::words::NOT_A_NUMBER;
+use command::words::end_of;
+use command::words::number;
 use command::words::part;
 use command::words::same;
-use command::words::spelled;
-use command::words::to_number;
-use command::words::word_at;
+use command::words::word;
 use libc::STDIN_FILENO;
 
 fn make_zeros(name: &[u8], n: u64) {
@@ -33,25 +30,23 @@ fn zeros(words: &[u8], name_at: usize) {
     if name_at > words.len() {
         return;
     }
-    let name = word_at(words, name_at);
-    if name.to >= words.len() {
+    let name_end = end_of(words, name_at, 0);
+    if name_end >= words.len() {
         return;
     }
-    let size = word_at(words, name.to + 1);
-    match to_number(spelled(words, size)) {
-        Number::Is(n) => make_zeros(spelled(words, name), n),
-        Number::Not => text(b"no number\n"),
+    let n = number(word(words, name_end + 1));
+    if n == NOT_A_NUMBER {
+        text(b"no number\n");
+        return;
     }
+    make_zeros(word(words, name_at), n);
 }
 
 fn print_out(read: FileRead, file: &[u8]) {
     match read {
         FileRead::Whole(n) => {
             text(b"  out.bmp has ");
-            decimal(n as u64);
-            text(b" bytes, cksum ");
-            decimal(checksum(part(file, 0, n)) as u64);
-            text(b"\n");
+            print_size(part(file, 0, n));
         }
         FileRead::TooLong => text(b"  out.bmp is longer than 65536 bytes\n"),
         FileRead::Failed => text(b"  there is no out.bmp\n"),
@@ -66,9 +61,8 @@ fn show_out() {
 }
 
 fn run_words(words: &[u8]) {
-    let first = word_at(words, 0);
-    if same(spelled(words, first), b"zeros") {
-        zeros(words, first.to + 1);
+    if same(word(words, 0), b"zeros") {
+        zeros(words, end_of(words, 0, 0) + 1);
         return;
     }
     run(words);
@@ -99,24 +93,10 @@ fn run_line(line: &[u8]) {
     run_words(part(words, 0, n + 1));
 }
 
-fn line_end(lines: &[u8], at: usize) -> usize
-    requires { ⌜ at ≤ length (now lines) ⌝ }
-    ensures { λ r. ⌜ (at ≤ r) × (r ≤ length (now (lines .entry))) ⌝ }
-{
-    let mut i = at;
-    while i < lines.len() {
-        if lines[i] == b'\n' {
-            return i;
-        }
-        i += 1;
-    }
-    i
-}
-
 fn run_lines(lines: &[u8]) {
     let mut at = 0;
     while at < lines.len() {
-        let end = line_end(lines, at);
+        let end = end_of(lines, at, b'\n');
         run_line(part(lines, at, end));
         at = end + 1;
     }

@@ -1,17 +1,9 @@
 use native.Mathlib.Omega.{arith}
-use lib.ListN.{length, length-set, getD}
-use Prim.Native.Nat.{ℕ, _+_, _-_, _*_, _/_, _%_, _≤_, _<_}
+use lib.ListN.{length, length-set}
+use Prim.Native.Nat.{_-_, _≤_}
 use mathlib.Core.Path.{_≡_}
-use borrow.Author.Needs.{needs}
 use Rattle.command_lines.proofs.run_line.Statement.{statement}
 use Rattle.command_lines.proofs.run_line.Tie as tie
-use Rattle.command_lines.proofs.run_line.Reads as reads
-use Rattle.command_lines.proofs.run_line.Lts as lts
-use Rattle.command.proofs.names.text.Reads as text-reads
-use Rattle.command.proofs.run.run.Reads as run-reads
-use Rattle.command.proofs.words.part.Reads as part-reads
-use Rattle.command_lines.proofs.run_words.Reads as run-words-reads
-use Rattle.io.proofs.buffer.Reads as buffer-reads
 
 abbrev Inv-loop : tie.InvT-loop
 Inv-loop line words₀ n i₀ words i = (i ≤ n) × (length words ≡ 4096)
@@ -19,95 +11,72 @@ Inv-loop line words₀ n i₀ words i = (i ≤ n) × (length words ≡ 4096)
 abbrev μ-loop : tie.MeasureT-loop
 μ-loop line words₀ n i₀ words i = n - i
 
--- src/main.rt:78:10
 slice-aggregate-text : tie.Need-slice-aggregate-text Inv-loop μ-loop
 slice-aggregate-text c = omega arith
 
--- src/main.rt:78:5
 text-requires : tie.Need-text-requires Inv-loop μ-loop
 text-requires c κs = omega arith
 
--- src/main.rt:79:5
 text-requires-2 : tie.Need-text-requires-2 Inv-loop μ-loop
 text-requires-2 c κs = omega arith
 
--- src/main.rt:80:10
 slice-aggregate-text-2 : tie.Need-slice-aggregate-text-2 Inv-loop μ-loop
 slice-aggregate-text-2 c = omega arith
 
--- src/main.rt:80:5
 text-requires-3 : tie.Need-text-requires-3 Inv-loop μ-loop
 text-requires-3 c κs = omega arith
 
--- src/main.rt:81:21
 buffer-requires : tie.Need-buffer-requires Inv-loop μ-loop
 buffer-requires c κs = omega arith
 
--- src/main.rt:82:9
 slice-aggregate-words : tie.Need-slice-aggregate-words Inv-loop μ-loop
 slice-aggregate-words c = omega arith
 
--- src/main.rt:85:9
 returns : tie.Need-returns Inv-loop μ-loop
 returns c = omega arith
 
--- src/main.rt:88:5
 loop-holds : tie.Need-loop-holds Inv-loop μ-loop
 loop-holds c = omega arith
 
--- src/main.rt:89:23
 shared-slice-read-if2 : tie.Need-shared-slice-read-if2 Inv-loop μ-loop
 shared-slice-read-if2 c = omega arith
 
--- src/main.rt:89:52
 shared-slice-read-words : tie.Need-shared-slice-read-words Inv-loop μ-loop
 shared-slice-read-words c = omega arith
 
--- src/main.rt:89:9
 slice-write-words : tie.Need-slice-write-words Inv-loop μ-loop
 slice-write-words c = omega arith
 
--- src/main.rt:90:9
 add-i : tie.Need-add-i Inv-loop μ-loop
 add-i c = omega arith
 
--- src/main.rt:88:5
 loop-less : tie.Need-loop-less Inv-loop μ-loop
 loop-less c = omega arith
 
--- src/main.rt:88:5
 loop-again : tie.Need-loop-again Inv-loop μ-loop
 loop-again c = simp length-set (omega arith)
 
--- src/main.rt:92:5
 slice-write-words-2 : tie.Need-slice-write-words-2 Inv-loop μ-loop
 slice-write-words-2 c = omega arith
 
--- src/main.rt:94:13
 part-requires : tie.Need-part-requires Inv-loop μ-loop
 part-requires c κs = omega arith
 
--- src/main.rt:94:9
 run-requires : tie.Need-run-requires Inv-loop μ-loop
 run-requires c κs = omega arith
 
--- src/main.rt:95:9
 returns-2 : tie.Need-returns-2 Inv-loop μ-loop
 returns-2 c = omega arith
 
--- src/main.rt:97:30
 add-part : tie.Need-add-part Inv-loop μ-loop
 add-part c = omega arith
 
--- src/main.rt:97:15
 part-requires-2 : tie.Need-part-requires-2 Inv-loop μ-loop
 part-requires-2 c κs = omega arith
 
--- src/main.rt:97:5
 run-words-requires : tie.Need-run-words-requires Inv-loop μ-loop
 run-words-requires c κs = omega arith
 
--- src/main.rt:77:1
 returns-3 : tie.Need-returns-3 Inv-loop μ-loop
 returns-3 c = omega arith
 

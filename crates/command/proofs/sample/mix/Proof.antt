@@ -1,13 +1,9 @@
 use native.Mathlib.Omega.{arith}
-use lib.ListN.{length, length-set, getD}
-use Prim.Native.Nat.{ℕ, _+_, _-_, _*_, _/_, _%_, _≤_, _<_}
+use lib.ListN.{length, length-set}
+use Prim.Native.Nat.{_-_, _≤_}
 use mathlib.Core.Path.{_≡_}
-use borrow.Author.Needs.{needs}
 use Rattle.command.proofs.sample.mix.Statement.{statement}
 use Rattle.command.proofs.sample.mix.Tie as tie
-use Rattle.command.proofs.sample.mix.Reads as reads
-use Rattle.command.proofs.sample.mix.Lts as lts
-use Rattle.command.proofs.sample.shade.Reads as shade-reads
 
 abbrev Inv-loop : tie.InvT-loop
 Inv-loop palette₀ i₀ palette i = (i ≤ length palette) × (length palette ≡ length palette₀)
@@ -15,35 +11,27 @@ Inv-loop palette₀ i₀ palette i = (i ≤ length palette) × (length palette �
 abbrev μ-loop : tie.MeasureT-loop
 μ-loop palette₀ i₀ palette i = length palette₀ - i
 
--- src/sample.rt:98:5
 loop-holds : tie.Need-loop-holds Inv-loop μ-loop
 loop-holds c = omega arith
 
--- src/sample.rt:99:22
 shade-requires : tie.Need-shade-requires Inv-loop μ-loop
 shade-requires c κs = omega arith
 
--- src/sample.rt:99:9
 slice-write-palette : tie.Need-slice-write-palette Inv-loop μ-loop
 slice-write-palette c = omega arith
 
--- src/sample.rt:100:9
 add-i : tie.Need-add-i Inv-loop μ-loop
 add-i c = omega arith
 
--- src/sample.rt:98:5
 loop-less : tie.Need-loop-less Inv-loop μ-loop
 loop-less c = omega arith
 
--- src/sample.rt:98:5
 loop-again : tie.Need-loop-again Inv-loop μ-loop
 loop-again c = simp length-set (omega arith)
 
--- src/sample.rt:96:1
 same-length : tie.Need-same-length Inv-loop μ-loop
 same-length c = omega arith
 
--- src/sample.rt:96:1
 returns : tie.Need-returns Inv-loop μ-loop
 returns c = omega arith
 
