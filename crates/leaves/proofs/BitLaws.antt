@@ -3,7 +3,7 @@ use mathlib.Core.Path.{_≡_, refl, sym, ap, ap₂, _∙_}
 use Prim.Native.Nat.{ℕ, _+_, _*_, _/_, _%_, _≤_, min, max}
 use native.Mathlib.Omega.{arith}
 use lib.Arith.{bin-ind, digits-div, digits-mod}
-use lib.Bits.{bitAnd, bitOr, and-step, or-step, and-le-l, and-le-r, or-add-and}
+use lib.Bits.{bitAnd, bitOr, and-step, or-step, or-comm, and-le-l, and-le-r, or-add-and}
 
 and-half : (a b : ℕ) → bitAnd a b / 2 ≡ bitAnd (a / 2) (b / 2)
 and-half a b = ap (λ (z : ℕ). z / 2) (and-step a b) ∙ digits-div (bitAnd (a / 2) (b / 2)) (omega arith)
@@ -30,6 +30,19 @@ and-or a =
     ∙ ap₂ (λ (x y : ℕ). x * 2 + y) (ih (b / 2) (c / 2)) (min-max (n % 2) (b % 2) (c % 2))
     ∙ sym (or-step (bitAnd n c) (bitAnd b c)
     ∙ ap₂ (λ (x y : ℕ). x * 2 + y) (ap₂ bitOr (and-half n c) (and-half b c)) (ap₂ max (and-odd n c) (and-odd b c)))) a
+
+max-turn : (x y z : ℕ) → max (max x y) z ≡ max (max z y) x
+max-turn x y z = omega arith
+
+-- the bits of three numbers, the first and the last exchanged
+pub or-turn : (a b c : ℕ) → bitOr (bitOr a b) c ≡ bitOr (bitOr c b) a
+or-turn a =
+    bin-ind (λ (n : ℕ). (b c : ℕ) → bitOr (bitOr n b) c ≡ bitOr (bitOr c b) n) (λ b c. or-comm b c ∙ sym (or-comm (bitOr c b) 0))
+    (λ n ih b c.
+    or-step (bitOr n b) c
+    ∙ ap₂ (λ (x y : ℕ). bitOr x (c / 2) * 2 + max y (c % 2)) (or-half n b) (or-odd n b)
+    ∙ ap₂ (λ (x y : ℕ). x * 2 + y) (ih (b / 2) (c / 2)) (max-turn (n % 2) (b % 2) (c % 2))
+    ∙ sym (or-step (bitOr c b) n ∙ ap₂ (λ (x y : ℕ). bitOr x (n / 2) * 2 + max y (n % 2)) (or-half c b) (or-odd c b))) a
 
 -- a number has no bit that one with more bits lacks
 pub le-or-l : (a b : ℕ) → a ≤ bitOr a b

@@ -1,6 +1,7 @@
 pub mod AllRows
 pub mod Cells
 pub mod Charges
+pub mod Exchanges
 pub mod FlagBytes
 pub mod FromBits
 pub mod MaskCells
@@ -9,6 +10,7 @@ pub mod PackLaws
 pub mod RleBlocks
 pub mod RleBytes
 pub mod Scans
+pub mod ShortFields
 pub mod StreamPlaces
 pub mod Streams
 pub mod WindowBlocks

@@ -3,7 +3,7 @@ use mathlib.Core.Path.{_≡_}
 use mathlib.Core.Logic.{_⊎_}
 use mathlib.Core.Bool.{Bool, true, false, cond}
 use mathlib.Core.List.{List, [], _∷_, _++_}
-use Prim.Native.Nat.{ℕ, zero, _+_, _-_, _*_, _^_, _≤_}
+use Prim.Native.Nat.{ℕ, zero, _+_, _-_, _*_, _%_, _^_, _≤_}
 use lib.Bits.{bitOr}
 use lib.Dec.{eqb}
 use lib.ListN.{length, getD, take, drop, replicate}
@@ -38,6 +38,10 @@ alphaIn n row x = cond (eqb n 4) (getD row (x * n + 3) 0) 255
 -- document 01, Cells: "24- and 32-bit cells are stored blue, green, red, and at 32 bits alpha"
 unfoldable pub cell24 : Bool → List ℕ → ℕ → List ℕ
 cell24 bgr row x = blueIn 3 bgr row x ∷ greenIn 3 row x ∷ redIn 3 bgr row x ∷ []
+
+-- byte k of the 24-bit cells of a row with red first, joined: red and blue stand two bytes apart
+unfoldable pub exchangedByte : List ℕ → ℕ → ℕ
+exchangedByte row k = cond (eqb (k % 3) 0) (getD row (k + 2) 0) (cond (eqb (k % 3) 1) (getD row k 0) (getD row (k - 2) 0))
 
 unfoldable pub cell32 : Bool → List ℕ → ℕ → List ℕ
 cell32 bgr row x = blueIn 4 bgr row x ∷ greenIn 4 row x ∷ redIn 4 bgr row x ∷ alphaIn 4 row x ∷ []
@@ -86,6 +90,13 @@ pub record LayoutOk (layout : MaskLayout) : Type 0 where
   pub green : layout .g .shift + layout .g .len ≤ 32
   pub blue : layout .b .shift + layout .b .len ≤ 32
   pub alpha : layout .a .shift + layout .a .len ≤ 32
+
+-- those of them whose channels have at most 16 bits each
+pub record ShortOk (layout : MaskLayout) : Type 0 where
+  pub red : layout .r .len ≤ 16
+  pub green : layout .g .len ≤ 16
+  pub blue : layout .b .len ≤ 16
+  pub alpha : layout .a .len ≤ 16
 
 abbrev pub PackOk : RowPack → Type 0
 PackOk (Bgra32 bgr) = Unit {0}

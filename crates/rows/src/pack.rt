@@ -1,10 +1,11 @@
 // How a source row becomes a stored row (the Rust's encoder.rs, section on pixel packing). Each packer
 // writes one whole stored row, padding included, whatever the buffer held before.
 ghost use mathlib.Core.Path.{_≡_};
-ghost use mathlib.Core.Bool.{true, false};
+ghost use mathlib.Core.Bool.{true, false, cond};
 ghost use mathlib.Core.List.{[], _∷_, _++_};
 ghost use mathlib.Core.Logic.{_⊎_};
 ghost use Prim.Native.Nat.{_+_, _*_, _%_, _^_, _<_, _≤_};
+ghost use lib.Dec.{eqb};
 ghost use lib.ListN.{length, getD};
 ghost use Rattle.leaves.specs.Bytes.{le32};
 ghost use Rattle.leaves.specs.Lists.{tab, cat};
@@ -13,7 +14,7 @@ ghost use Rattle.leaves.specs.Put.{put};
 ghost use Rattle.leaves.specs.Sizes.{rowStride, hasTable};
 ghost use Rattle.rows.specs.Packing.{packedByte, packed};
 ghost use Rattle.rows.specs.declared.pack.RowPack.the-variants.{Bgra32, Bgr24, Words16, Masks};
-ghost use Rattle.rows.specs.StoredRows.{cell24, cell32, field, maskWord, storedRow, packBits, packBytes, LayoutOk, PackOk, storedRows};
+ghost use Rattle.rows.specs.StoredRows.{cell24, cell32, exchangedByte, field, maskWord, maskCell, storedRow, packBits, packBytes, LayoutOk, ShortOk, PackOk, storedRows};
 use leaves::bitfields::MaskShiftLen;
 use leaves::bitfields::mask_shift_len;
 use leaves::bitfields::quantise;
@@ -223,15 +224,79 @@ fn cell_word24(src: &[u8], x: usize) -> u32
     word_of(src[s + 2], src[s + 1], src[s], 0)
 }
 
-// The 24-bit cells of a row with red first. A cell is stored as a word, whose fourth byte the next cell
-// overwrites; only the last is stored by bytes.
+// All ones at the wanted place, and none at others.
+fn place_mask(place: usize, wanted: usize) -> u8
+    ensures { λ r. ⌜ r ≡ cond (eqb place wanted) 255 0 ⌝ }
+{
+    if place == wanted {
+        return 255;
+    }
+    0
+}
+
+// Byte j of cells with red first: of the bytes two before it, at its place and two after it the one that
+// belongs there. All three are read and masked, as vector code needs it; a branch would read one.
+fn exchanged_byte(before: u8, here: u8, after: u8, j: usize) -> u8
+    ensures { λ r. ⌜ r ≡ cond (eqb (j % 3) 0) after (cond (eqb (j % 3) 1) here before) ⌝ }
+{
+    let place = j % 3;
+    (after & place_mask(place, 0)) | (here & place_mask(place, 1)) | (before & place_mask(place, 2))
+}
+
+// Sixteen cells of a row with red first, from byte i on. By way of a local array it is vector code.
+fn exchange_sixteen(src: &[u8], i: usize, dst: &mut [u8], at: usize)
+    requires { ⌜ i % 3 ≡ 0 ⌝ }
+    requires { ⌜ 2 ≤ i ⌝ }
+    requires { ⌜ i + 50 ≤ length (now src) ⌝ }
+    requires { ⌜ at + 48 ≤ length (now dst) ⌝ }
+    ensures { λ _. ⌜ now (dst .exit) ≡ put (now (dst .entry)) at (tab (λ k. exchangedByte (now (src .entry)) (i + k)) 48) ⌝ }
+{
+    let mut bytes = [0u8; 48];
+    let mut j = 0;
+    while j < 48 {
+        let s = i + j;
+        bytes[j] = exchanged_byte(src[s - 2], src[s], src[s + 2], j);
+        j += 1;
+    }
+    let mut k = 0;
+    while k < 48 {
+        dst[at + k] = bytes[k];
+        k += 1;
+    }
+}
+
+// The first cells of a row with red first, and how many they are: one alone, then sixteen a turn. A turn
+// reads two bytes before its cells and two after them.
+fn exchange_most(src: &[u8], width: u32, dst: &mut [u8], at: usize) -> usize
+    requires { ⌜ length (now src) ≡ width * 3 ⌝ }
+    requires { ⌜ at + width * 3 ≤ length (now dst) ⌝ }
+    ensures { λ r. ⌜ (r ≤ width) × (now (dst .exit) ≡ put (now (dst .entry)) at (cat (cell24 false (now (src .entry))) r)) ⌝ }
+{
+    let w = width as usize;
+    if w == 0 {
+        return 0;
+    }
+    dst[at] = src[2];
+    dst[at + 1] = src[1];
+    dst[at + 2] = src[0];
+    let mut x = 1;
+    while w - x > 16 {
+        let i = x * 3;
+        exchange_sixteen(src, i, dst, at + i);
+        x += 16;
+    }
+    x
+}
+
+// The 24-bit cells of a row with red first. Those after the blocks of sixteen are stored as words, whose
+// fourth byte the next cell overwrites; only the last is stored by bytes.
 fn exchange24(src: &[u8], width: u32, dst: &mut [u8], at: usize)
     requires { ⌜ length (now src) ≡ width * 3 ⌝ }
     requires { ⌜ at + width * 3 ≤ length (now dst) ⌝ }
     ensures { λ _. ⌜ now (dst .exit) ≡ put (now (dst .entry)) at (cat (cell24 false (now (src .entry))) width) ⌝ }
 {
     let w = width as usize;
-    let mut x = 0;
+    let mut x = exchange_most(src, width, dst, at);
     while w - x >= 2 {
         let p = cell_word24(src, x);
         put_u32(dst, at + x * 3, p);
@@ -286,6 +351,27 @@ fn mask_field(channel: MaskShiftLen, sample: u8) -> u32
     quantise(sample, channel.len) << channel.shift
 }
 
+// A sample in the place of a channel of at most 16 bits: the byte twice over, cut to the channel's
+// length. It has no branch, and its shifts are those of all pixels, as vector code needs them.
+fn short_field(channel: MaskShiftLen, sample: u32) -> u32
+    requires { ⌜ sample < 256 ⌝ }
+    requires { ⌜ channel .len ≤ 16 ⌝ }
+    requires { ⌜ channel .shift + channel .len ≤ 32 ⌝ }
+    ensures { λ r. ⌜ r ≡ field channel sample ⌝ }
+{
+    ((sample * 257) >> (16 - channel.len)) << (channel.shift % 32)
+}
+
+// The larger of two lengths.
+fn longer(a: u32, b: u32) -> u32
+    ensures { λ r. ⌜ (a ≤ r) × (b ≤ r) ⌝ }
+{
+    if a < b {
+        return b;
+    }
+    a
+}
+
 impl MaskLayout {
     pub fn new(bpp: u16, masks: [u32; 4]) -> Self
         ensures { λ r. ⌜
@@ -321,8 +407,8 @@ impl MaskLayout {
         r | g | b | a
     }
 
-    // Cells of 16 or 32 bits, fitted to masks.
-    pub fn pack(self, src: &[u8], in_bpp: usize, bgr: bool, width: u32, dst: &mut [u8], at: usize)
+    // Cells of 16 or 32 bits, for channels of any length.
+    fn pack_long(self, src: &[u8], in_bpp: usize, bgr: bool, width: u32, dst: &mut [u8], at: usize)
         requires { ⌜ LayoutOk self ⌝ }
         requires { ⌜ («in_bpp» ≡ 3) ⊎ («in_bpp» ≡ 4) ⌝ }
         requires { ⌜ length (now src) ≡ width * «in_bpp» ⌝ }
@@ -345,6 +431,138 @@ impl MaskLayout {
             x += 1;
         }
         put_zeros(dst, o, row_stride(width, bpp) - (o - at));
+    }
+
+    // The length of the longest channel.
+    fn longest(self) -> u32
+        ensures { λ r. ⌜ (self .r .len ≤ r) × (self .g .len ≤ r) × (self .b .len ≤ r) × (self .a .len ≤ r) ⌝ }
+    {
+        longer(
+            longer(self.r.len, self.g.len),
+            longer(self.b.len, self.a.len),
+        )
+    }
+
+    // The layout with which pixels of this order are packed as if red came first.
+    fn ordered(self, bgr: bool) -> Self
+        ensures { λ r. ⌜
+            (r .bpp ≡ self .bpp)
+            × (r .r ≡ cond bgr (self .b) (self .r))
+            × (r .g ≡ self .g)
+            × (r .b ≡ cond bgr (self .r) (self .b))
+            × (r .a ≡ self .a)
+            ⌝ }
+    {
+        let bpp = self.bpp;
+        let r = self.r;
+        let g = self.g;
+        let b = self.b;
+        let a = self.a;
+        if bgr {
+            return MaskLayout {
+                bpp,
+                r: b,
+                g,
+                b: r,
+                a,
+            };
+        }
+        MaskLayout { bpp, r, g, b, a }
+    }
+
+    // The word of a pixel of 4 bytes, red first, from the word of its bytes.
+    fn short_word(self, pixel: u32) -> u32
+        requires { ⌜ LayoutOk self ⌝ }
+        requires { ⌜ ShortOk self ⌝ }
+        ensures { λ r. ⌜ r ≡ maskWord self 4 false (le32 pixel) 0 ⌝ }
+    {
+        let r = short_field(self.r, pixel % 256);
+        let g = short_field(self.g, pixel / 256 % 256);
+        let b = short_field(self.b, pixel / 256 / 256 % 256);
+        let a = short_field(self.a, pixel / 256 / 256 / 256 % 256);
+        r | g | b | a
+    }
+
+    // The word of pixel x of 4 bytes, red first.
+    fn short_cell(self, src: &[u8], x: usize) -> u32
+        requires { ⌜ LayoutOk self ⌝ }
+        requires { ⌜ ShortOk self ⌝ }
+        requires { ⌜ x * 4 + 4 ≤ length (now src) ⌝ }
+        ensures { λ r. ⌜ r ≡ maskWord self 4 false (now (src .entry)) x ⌝ }
+    {
+        self.short_word(pixel_word(src, x))
+    }
+
+    // The 16-bit cells of a row of pixels of 4 bytes, red first.
+    fn short_cells16(self, src: &[u8], width: u32, dst: &mut [u8], at: usize)
+        requires { ⌜ LayoutOk self ⌝ }
+        requires { ⌜ ShortOk self ⌝ }
+        requires { ⌜ self .bpp ≡ 16 ⌝ }
+        requires { ⌜ length (now src) ≡ width * 4 ⌝ }
+        requires { ⌜ at + width * 2 ≤ length (now dst) ⌝ }
+        ensures { λ _. ⌜ now (dst .exit) ≡ put (now (dst .entry)) at (cat (maskCell self 4 false (now (src .entry))) width) ⌝ }
+    {
+        let w = width as usize;
+        let mut x = 0;
+        while x < w {
+            let word = self.short_cell(src, x);
+            put_u16(dst, at + x * 2, (word % 65536) as u16);
+            x += 1;
+        }
+    }
+
+    // The 32-bit cells of such a row.
+    fn short_cells32(self, src: &[u8], width: u32, dst: &mut [u8], at: usize)
+        requires { ⌜ LayoutOk self ⌝ }
+        requires { ⌜ ShortOk self ⌝ }
+        requires { ⌜ self .bpp ≡ 32 ⌝ }
+        requires { ⌜ length (now src) ≡ width * 4 ⌝ }
+        requires { ⌜ at + width * 4 ≤ length (now dst) ⌝ }
+        ensures { λ _. ⌜ now (dst .exit) ≡ put (now (dst .entry)) at (cat (maskCell self 4 false (now (src .entry))) width) ⌝ }
+    {
+        let w = width as usize;
+        let mut x = 0;
+        while x < w {
+            let word = self.short_cell(src, x);
+            put_u32(dst, at + x * 4, word);
+            x += 1;
+        }
+    }
+
+    // Cells of pixels of 4 bytes, where each channel has at most 16 bits.
+    fn pack_short(self, src: &[u8], bgr: bool, width: u32, dst: &mut [u8], at: usize)
+        requires { ⌜ LayoutOk self ⌝ }
+        requires { ⌜ ShortOk self ⌝ }
+        requires { ⌜ length (now src) ≡ width * 4 ⌝ }
+        requires { ⌜ at + rowStride width (self .bpp) ≤ length (now dst) ⌝ }
+        ensures { λ _. ⌜ now (dst .exit) ≡ put (now (dst .entry)) at (storedRow (Masks 4 bgr self) width (now (src .entry))) ⌝ }
+    {
+        let layout = self.ordered(bgr);
+        if self.bpp == 16 {
+            layout.short_cells16(src, width, dst, at);
+            let filled = width as usize * 2;
+            put_zeros(dst, at + filled, row_stride(width, 16) - filled);
+            return;
+        }
+        layout.short_cells32(src, width, dst, at);
+    }
+
+    // Cells of 16 or 32 bits, fitted to masks.
+    pub fn pack(self, src: &[u8], in_bpp: usize, bgr: bool, width: u32, dst: &mut [u8], at: usize)
+        requires { ⌜ LayoutOk self ⌝ }
+        requires { ⌜ («in_bpp» ≡ 3) ⊎ («in_bpp» ≡ 4) ⌝ }
+        requires { ⌜ length (now src) ≡ width * «in_bpp» ⌝ }
+        requires { ⌜ at + rowStride width (self .bpp) ≤ length (now dst) ⌝ }
+        ensures { λ _. ⌜ now (dst .exit) ≡ put (now (dst .entry)) at (storedRow (Masks «in_bpp» bgr self) width (now (src .entry))) ⌝ }
+    {
+        if in_bpp == 4 {
+            let longest = self.longest();
+            if longest <= 16 {
+                self.pack_short(src, bgr, width, dst, at);
+                return;
+            }
+        }
+        self.pack_long(src, in_bpp, bgr, width, dst, at);
     }
 }
 

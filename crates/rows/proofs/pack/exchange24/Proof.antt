@@ -4,23 +4,26 @@ use mathlib.Core.List.{[], _∷_}
 use Prim.Native.Nat.{_+_, _-_, _*_, _≤_}
 use native.Mathlib.Omega.{arith}
 use lib.ListN.{length, getD, length-set}
-use Rattle.leaves.specs.Lists.{cat}
 use Rattle.leaves.specs.Put.{put}
 use Rattle.rows.specs.StoredRows.{cell24}
 use Rattle.rows.proofs.PackLaws.{stores3}
-use Rattle.rows.proofs.Cells.{length-cell24, exchanged-cell24, finished, all-cells, one-cell, cell-and-more, no-cell}
+use Rattle.rows.proofs.Cells.{length-cell24, exchanged-cell24, finished, one-cell, cell-and-more, no-cell}
+use Rattle.rows.proofs.Exchanges.{cells-left}
 use Rattle.rows.proofs.pack.exchange24.Statement.{statement}
 use Rattle.rows.proofs.pack.exchange24.Tie as tie
 
 abbrev Inv-loop : tie.InvT-loop
 Inv-loop src width dst₀ at w x₀ dst x =
-    (x ≤ w) × (length dst ≡ length dst₀) × (finished (cell24 false src) 3 w dst at x ≡ put dst₀ at (cat (cell24 false src) w))
+    (x ≤ w) × (length dst ≡ length dst₀) × (finished (cell24 false src) 3 w dst at x ≡ finished (cell24 false src) 3 w dst₀ at x₀)
 
 abbrev μ-loop : tie.MeasureT-loop
 μ-loop src width dst₀ at w x₀ dst x = w - x
 
+exchange-most-requires : tie.Need-exchange-most-requires Inv-loop μ-loop
+exchange-most-requires c κs = (omega arith, omega arith)
+
 loop-holds : tie.Need-loop-holds Inv-loop μ-loop
-loop-holds c = let a = c .before .before .args in (omega arith, refl, all-cells (cell24 false (a .src .now)) 3 (a .width) (a .at) (a .dst .now))
+loop-holds c = (c .before .before .exchange-most .ensures .0, refl, refl)
 
 sub-loop : tie.Need-sub-loop Inv-loop μ-loop
 sub-loop c = omega arith
@@ -46,7 +49,7 @@ loop-less c = omega arith
 loop-again : tie.Need-loop-again Inv-loop μ-loop
 loop-again c =
     let l = c .before .before .before .before .before .before .loop in
-    let a = c .before .before .before .before .before .before .before .before .before .args in
+    let a = c .before .before .before .before .before .before .before .before .before .before .before .before .before .args in
     let p = c .before .before .put-u32 in (
       omega arith,
       omega arith,
@@ -61,8 +64,11 @@ same-length c = omega arith
 returns : tie.Need-returns Inv-loop μ-loop
 returns c =
     let l = c .before .before .loop in
-    let a = c .before .before .before .before .before .args in
-    sym (no-cell (cell24 false (a .src .now)) 3 (length-cell24 false (a .src .now)) (a .width) (l .x) (a .at) (l .dst) (omega arith)) ∙ l .inv .2
+    let a = c .before .before .before .before .before .before .before .before .before .args in
+    let m = c .before .before .before .before .before .exchange-most in
+    sym (no-cell (cell24 false (a .src .now)) 3 (length-cell24 false (a .src .now)) (a .width) (l .x) (a .at) (l .dst) (omega arith))
+    ∙ l .inv .2
+    ∙ cells-left (a .src .now) (a .dst .now) (m .last .1 .1 .0) (a .at) (m .result) (a .width) (m .ensures .0) (omega arith) (m .ensures .1)
 
 mul-s : tie.Need-mul-s Inv-loop μ-loop
 mul-s c = omega arith
@@ -106,7 +112,8 @@ same-length-2 c = simp length-set (omega arith)
 returns-2 : tie.Need-returns-2 Inv-loop μ-loop
 returns-2 c =
     let l = c .before .before .before .before .before .loop in
-    let a = c .before .before .before .before .before .before .before .before .args in
+    let a = c .before .before .before .before .before .before .before .before .before .before .before .before .args in
+    let m = c .before .before .before .before .before .before .before .before .exchange-most in
     let f = cell24 false (a .src .now) in
     let s = l .x * 3 in
     sym (no-cell f 3 (length-cell24 false (a .src .now)) (a .width) (l .x + 1) (a .at) _ (omega arith))
@@ -114,6 +121,7 @@ returns-2 c =
     (stores3 (l .dst) (a .at + s) (getD (a .src .now) (s + 2) 0) (getD (a .src .now) (s + 1) 0) (getD (a .src .now) s 0) (omega arith)
     ∙ ap (put (l .dst) (a .at + s)) (exchanged-cell24 (a .src .now) (l .x)))
     ∙ l .inv .2
+    ∙ cells-left (a .src .now) (a .dst .now) (m .last .1 .1 .0) (a .at) (m .result) (a .width) (m .ensures .0) (omega arith) (m .ensures .1)
 
 pub exchange24-spec : {M : Type 1} → statement M
 exchange24-spec =
@@ -121,6 +129,7 @@ exchange24-spec =
     (tie.spec
     Inv-loop
     μ-loop
+    exchange-most-requires
     loop-holds
     sub-loop
     cell-word24-requires

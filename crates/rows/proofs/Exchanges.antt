@@ -1,0 +1,115 @@
+-- Laws of 24-bit cells of a row with red first, as bytes by places.
+use mathlib.Core.Path.{_≡_, refl, sym, ap, _∙_}
+use mathlib.Core.Bool.{false, cond}
+use mathlib.Core.List.{List, [], _∷_, _++_, append-nil, append-assoc}
+use Prim.Native.Nat.{ℕ, zero, suc, _+_, _-_, _*_, _%_, _≤_, _<_}
+use native.Mathlib.Nat.{add-zero, mod-eq-of-lt}
+use native.Mathlib.Omega.{arith}
+use borrow.Author.Tests.{eq-eqb, ne-eqb}
+use lib.Bits.{bitAnd, bitOr, and-mask, and-zero-r, or-zero-r, or-comm}
+use lib.Dec.{eqb}
+use lib.ListN.{length, getD, set, drop, length-set}
+use lib.Seq.{drop-at}
+use Rattle.leaves.specs.Lists.{tab, cat}
+use Rattle.leaves.specs.Put.{put}
+use Rattle.rows.specs.StoredRows.{cell24, exchangedByte}
+use Rattle.leaves.proofs.ListLaws.{length-tab}
+use Rattle.leaves.proofs.Puts.{put-append}
+use Rattle.rows.proofs.Cells.{finished}
+
+-- the three bytes of cell x
+blue : (row : List ℕ) (k x : ℕ) → k ≡ x * 3 → exchangedByte row k ≡ getD row (x * 3 + 2) 0
+unfolding exchangedByte
+blue row k x e = let z : k % 3 ≡ 0 = omega arith in rw (eq-eqb (k % 3) 0 z) (ap (λ (n : ℕ). getD row (n + 2) 0) e)
+
+green : (row : List ℕ) (k x : ℕ) → k ≡ x * 3 + 1 → exchangedByte row k ≡ getD row (x * 3 + 1) 0
+unfolding exchangedByte
+green row k x e =
+    let z : k % 3 ≡ 1 = omega arith in
+    let n : k % 3 ≡ 0 → ⊥ = λ f. omega arith in
+    rw (ne-eqb (k % 3) 0 n, eq-eqb (k % 3) 1 z) (ap (λ (n : ℕ). getD row n 0) e)
+
+red : (row : List ℕ) (k x : ℕ) → k ≡ x * 3 + 2 → exchangedByte row k ≡ getD row (x * 3) 0
+unfolding exchangedByte
+red row k x e =
+    let n : k % 3 ≡ 0 → ⊥ = λ f. omega arith in
+    let m : k % 3 ≡ 1 → ⊥ = λ f. omega arith in
+    let p : k - 2 ≡ x * 3 = omega arith in
+    rw (ne-eqb (k % 3) 0 n, ne-eqb (k % 3) 1 m) (ap (λ (n : ℕ). getD row n 0) p)
+
+-- the cells, joined, are those bytes
+pub cells-bytes : (row : List ℕ) (w : ℕ) → cat (cell24 false row) w ≡ tab (exchangedByte row) (w * 3)
+unfolding cat tab cell24
+cells-bytes row zero = refl
+cells-bytes row (suc w) =
+    let e : suc w * 3 ≡ suc (suc (suc (w * 3))) = omega arith in
+    let z : w * 3 + 0 ≡ w * 3 = omega arith in
+    let t = tab (exchangedByte row) (w * 3) in
+    rw (e, cells-bytes row w, blue row (w * 3) w refl, green row (suc (w * 3)) w (omega arith), red row (suc (suc (w * 3))) w (omega arith), z)
+    (sym (append-assoc (t ++ (getD row (w * 3 + 2) 0 ∷ [])) (getD row (w * 3 + 1) 0 ∷ []) (getD row (w * 3) 0 ∷ []) ∙ append-assoc t (getD row (w * 3 + 2) 0 ∷ []) (getD row (w * 3 + 1) 0 ∷ getD row (w * 3) 0 ∷ [])))
+
+-- n bytes more
+tab-more : (g : ℕ → ℕ) (i n : ℕ) → tab g (i + n) ≡ tab g i ++ tab (λ k. g (i + k)) n
+unfolding tab
+tab-more g i zero = rw (add-zero i) (sym (append-nil (tab g i)))
+tab-more g i (suc n) =
+    let e : i + suc n ≡ suc (i + n) = omega arith in
+    rw (e, tab-more g i n) (append-assoc (tab g i) (tab (λ k. g (i + k)) n) (g (i + n) ∷ []))
+
+length-bytes : (row : List ℕ) (x : ℕ) → length (cat (cell24 false row) x) ≡ x * 3
+length-bytes row x = ap length (cells-bytes row x) ∙ length-tab (exchangedByte row) (x * 3)
+
+-- sixteen cells more are in place
+pub sixteen-cells : (row d₀ d e : List ℕ) (at x y : ℕ) → d ≡ put d₀ at (cat (cell24 false row) x) → e ≡ put d (at + x * 3) (tab (λ k. exchangedByte row (x * 3 + k)) 48)
+    → y ≡ x + 16 → at + x * 3 ≤ length d₀ → e ≡ put d₀ at (cat (cell24 false row) y)
+sixteen-cells row d₀ d e at x y was is next room =
+    let f = cell24 false row in
+    let t = tab (λ k. exchangedByte row (x * 3 + k)) 48 in
+    let l = length-bytes row x in
+    let p : at + x * 3 ≡ at + length (cat f x) = omega arith in
+    let n : y * 3 ≡ x * 3 + 48 = omega arith in
+    let s : cat f x ++ t ≡ cat f y =
+    ap (λ (z : List ℕ). z ++ t) (cells-bytes row x) ∙ sym (tab-more (exchangedByte row) (x * 3) 48) ∙ ap (tab (exchangedByte row)) (sym n) ∙ sym (cells-bytes row y) in
+    rw (is, was, p) (put-append d₀ at (cat f x) t (omega arith) ∙ ap (put d₀ at) s)
+
+-- the cells after those that are put
+pub cells-left : (row d b : List ℕ) (at x w : ℕ) → x ≤ w → at + w * 3 ≤ length d → b ≡ put d at (cat (cell24 false row) x)
+    → finished (cell24 false row) 3 w b at x ≡ put d at (cat (cell24 false row) w)
+unfolding finished
+cells-left row d b at x w h room was =
+    let f = cell24 false row in
+    let t = tab (λ k. exchangedByte row (x * 3 + k)) (w * 3 - x * 3) in
+    let l = length-bytes row x in
+    let n : w * 3 ≡ x * 3 + (w * 3 - x * 3) = omega arith in
+    let s : cat f w ≡ cat f x ++ t =
+    cells-bytes row w ∙ ap (tab (exchangedByte row)) n ∙ tab-more (exchangedByte row) (x * 3) (w * 3 - x * 3) ∙ ap (λ (z : List ℕ). z ++ t) (sym (cells-bytes row x)) in
+    let r : drop (x * 3) (cat f w) ≡ t = ap (drop (x * 3)) s ∙ drop-at (cat f x) t (x * 3) l in
+    let p : at + x * 3 ≡ at + length (cat f x) = omega arith in
+    rw (r, was, p) (put-append d at (cat f x) t (omega arith)) ∙ ap (put d at) (sym s)
+
+-- a byte is that of its place in the row
+pub byte-at : (row : List ℕ) (i j v : ℕ) → i % 3 ≡ 0 → v ≡ cond (eqb (j % 3) 0) (getD row (i + j + 2) 0) (cond (eqb (j % 3) 1) (getD row (i + j) 0) (getD row (i + j - 2) 0))
+    → v ≡ exchangedByte row (i + j)
+unfolding exchangedByte
+byte-at row i j v e f = let p : (i + j) % 3 ≡ j % 3 = omega arith in rw p f
+
+-- the first cell alone
+pub first-cell : (row d : List ℕ) (at : ℕ) (e : List ℕ) → e ≡ put d at (cell24 false row 0) → e ≡ put d at (cat (cell24 false row) 1)
+unfolding cat
+first-cell row d at e is = is
+
+-- three stores change no length
+pub length-stores : (d : List ℕ) (i j k p q r : ℕ) → length (set (set (set d i p) j q) k r) ≡ length d
+length-stores d i j k p q r = simp length-set
+
+-- of three bytes under masks the one whose mask has ones
+masked : (r a h b : ℕ) → r < 3 → a < 256 → h < 256 → b < 256
+    → bitOr (bitOr (bitAnd a (cond (eqb r 0) 255 0)) (bitAnd h (cond (eqb r 1) 255 0))) (bitAnd b (cond (eqb r 2) 255 0)) ≡ cond (eqb r 0) a (cond (eqb r 1) h b)
+masked zero a h b l p q t = rw (and-mask a 8, and-zero-r h, and-zero-r b, or-zero-r (a % 256), or-zero-r (a % 256)) (mod-eq-of-lt p)
+masked (suc zero) a h b l p q t = rw (and-zero-r a, and-mask h 8, and-zero-r b, or-zero-r (bitOr 0 (h % 256)), or-comm 0 (h % 256), or-zero-r (h % 256)) (mod-eq-of-lt q)
+masked (suc (suc zero)) a h b l p q t = rw (and-zero-r a, and-zero-r h, and-mask b 8) (mod-eq-of-lt t)
+masked (suc (suc (suc r))) a h b l p q t = absurd (omega arith)
+
+pub masked-byte : (j a h b x y z : ℕ) → x ≡ cond (eqb (j % 3) 0) 255 0 → y ≡ cond (eqb (j % 3) 1) 255 0 → z ≡ cond (eqb (j % 3) 2) 255 0 → a < 256 → h < 256 → b < 256
+    → bitOr (bitOr (bitAnd a x) (bitAnd h y)) (bitAnd b z) ≡ cond (eqb (j % 3) 0) a (cond (eqb (j % 3) 1) h b)
+masked-byte j a h b x y z ex ey ez p q t = rw (ex, ey, ez) (masked (j % 3) a h b (omega arith) p q t)
