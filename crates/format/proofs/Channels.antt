@@ -7,7 +7,7 @@ use Prim.Native.Nat.{ℕ, zero, suc, _+_, _-_, _*_, _/_, _%_, _^_, _≤_, _<_, m
 use native.Mathlib.Nat.{mod-eq-of-lt, zero-mul, add-zero, not-suc-le-zero, le-of-suc-le-suc, eq-or-lt-of-le, lt-of-le-of-lt}
 use native.Mathlib.Omega.{arith}
 use borrow.Author.Tests.{eqb-true, ltb-true, ltb-false}
-use lib.Arith.{bin-ind, lt-one, digits-div, digits-mod}
+use lib.Arith.{bin-ind, lt-one}
 use lib.Bits.{bitAnd, bitOr, and-step, and-mask, and-block, and-zero-r, and-comm, and-le-r, or-lt, or-zero-l, or-zero-r}
 use lib.Count.{onesIn, trailingZeros}
 use lib.Dec.{ltb, eqb}
@@ -19,18 +19,11 @@ use Rattle.rows.specs.StoredRows.{field}
 use Rattle.format.specs.Accepted.{MasksAccepted}
 use Rattle.format.specs.File.{channelOf}
 use Rattle.format.specs.Readers.{channel}
-use Rattle.leaves.proofs.BitLaws.{and-or}
+use Rattle.leaves.proofs.BitLaws.{and-half, and-odd, and-or}
 use Rattle.leaves.proofs.Fitting.{fit-lt}
 use Rattle.leaves.proofs.Runs.{run-is, count-zero}
 
 -- ---- and is associative
-
--- the half of an and, and its last bit (as in leaves' BitLaws, where they are private)
-and-half : (a b : ℕ) → bitAnd a b / 2 ≡ bitAnd (a / 2) (b / 2)
-and-half a b = ap (λ (z : ℕ). z / 2) (and-step a b) ∙ digits-div (bitAnd (a / 2) (b / 2)) (omega arith)
-
-and-odd : (a b : ℕ) → bitAnd a b % 2 ≡ min (a % 2) (b % 2)
-and-odd a b = ap (λ (z : ℕ). z % 2) (and-step a b) ∙ digits-mod (bitAnd (a / 2) (b / 2)) (omega arith)
 
 -- the law for single bits
 min-min : (x y z : ℕ) → min (min x y) z ≡ min x (min y z)

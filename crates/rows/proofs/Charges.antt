@@ -14,7 +14,7 @@ use mathlib.Core.List.{List}
 use Rattle.rows.specs.Windows.{fromBits, total, twins, flagsAt, before, lone, first, evenPlace, charged}
 use Rattle.rows.proofs.FromBits.{bits-ext, bits-down, bits-and, bits-or, bits-xor, bits-not, bits-up, bits-add, bits-mod, bits-ones, bits-lt, bits-top, unlike, carry, summed}
 
-even : ℕ → Bool
+unfoldable pub even : ℕ → Bool
 even zero = true
 even (suc k) = not (even k)
 

@@ -11,6 +11,7 @@ use lib.Dec.{T, ltb}
 use lib.ListN.{length, getD, drop}
 use Rattle.rows.specs.RleCodes.{cells, codes}
 use Rattle.rows.specs.Windows.{bit, total, twins, flagsAt, before, lone, first, evenPlace, charged, Coding}
+use Rattle.rows.proofs.Charges.{even}
 use Rattle.rows.proofs.Scans.{cell-at}
 use Rattle.rows.proofs.WindowBlocks.{flag, half, run-codes, lone-codes}
 
@@ -92,14 +93,10 @@ module _ (e : ℕ → Bool) where
 
 -- ---- a stretch of lone cells
 
-isEven : ℕ → Bool
-isEven zero = true
-isEven (suc n) = not (isEven n)
-
-even-bit : (n : ℕ) → bit (isEven n) + n % 2 ≡ 1
-unfolding isEven
+even-bit : (n : ℕ) → bit (even n) + n % 2 ≡ 1
+unfolding even
 even-bit zero = refl
-even-bit (suc n) = go (isEven n) (even-bit n)
+even-bit (suc n) = go (even n) (even-bit n)
   where
     go : (b : Bool) → bit b + n % 2 ≡ 1 → bit (not b) + suc n % 2 ≡ 1
     go true h = omega arith
@@ -107,13 +104,13 @@ even-bit (suc n) = go (isEven n) (even-bit n)
 
 -- the places in a stretch that are charged
 mark : ℕ → Bool
-unfolding isEven
+unfolding even
 mark zero = true
 mark (suc zero) = true
-mark (suc (suc n)) = isEven n
+mark (suc (suc n)) = even n
 
 half-next : (i : ℕ) → half (suc i) ≡ half i + bit (mark i)
-unfolding mark isEven
+unfolding mark even
 half-next zero = refl
 half-next (suc zero) = refl
 half-next (suc (suc n)) = omega (arith, even-bit n)
@@ -162,20 +159,20 @@ module _ (e : ℕ → Bool) where
     lone-in zero b = rw (add-zero k) (is-lone k (rw (add-zero k) at (f 0 b)) h)
     lone-in (suc i) b = is-lone (k + suc i) (f (suc i) b) (rw (add-suc k i) (f i (omega arith)))
 
-    even-in : (i : ℕ) → i ≤ j → evenPlace e (k + i) ≡ isEven i
-    unfolding isEven
+    even-in : (i : ℕ) → i ≤ j → evenPlace e (k + i) ≡ even i
+    unfolding even
     even-in zero b = rw (add-zero k) (even-start k l)
     even-in (suc i) b = rw (add-suc k i) (even-next (k + i) (lone-in i (omega arith)) ∙ ap not (even-in i (omega arith)))
 
     charged-in : (i : ℕ) → i ≤ j → charged e (k + i) ≡ mark i
-    unfolding mark isEven
+    unfolding mark even
     charged-in zero b = charged-lone (k + 0) (f 0 b) (lone-in 0 b) ∙ rw (even-in 0 b)
     charged-in (suc zero) b =
         let s : before (first e) (k + 1) ≡ true = rw (add-suc k 0, add-zero k) (is-first k (rw (add-zero k) at (lone-in 0 (omega arith))) l) in
         charged-lone (k + 1) (f 1 b) (lone-in 1 b) ∙ rw s (or-true (evenPlace e (k + 1)))
     charged-in (suc (suc i)) b =
         let s : before (first e) (k + suc (suc i)) ≡ false = rw (add-suc k (suc i), add-suc k i) (not-first (k + i) (lone-in i (omega arith))) in
-        charged-lone (k + suc (suc i)) (f (suc (suc i)) b) (lone-in (suc (suc i)) b) ∙ rw s (or-false (evenPlace e (k + suc (suc i)))) ∙ even-in (suc (suc i)) b ∙ not-not (isEven i)
+        charged-lone (k + suc (suc i)) (f (suc (suc i)) b) (lone-in (suc (suc i)) b) ∙ rw s (or-false (evenPlace e (k + suc (suc i)))) ∙ even-in (suc (suc i)) b ∙ not-not (even i)
 
     lone-total : (i : ℕ) → i ≤ j + 1 → total (charged e) (k + i) ≡ total (charged e) k + half i
     unfolding total
