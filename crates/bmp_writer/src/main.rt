@@ -1,8 +1,8 @@
 // The command-line program: gathers its arguments and runs them.
 ghost use mathlib.Core.Path.{_≡_};
 ghost use lib.ListN.{length};
+use arguments::words::part;
 use command::run::run;
-use command::words::part;
 
 // Puts argument i and a 0 at a place, and returns the place after it, or 0 where it does not fit.
 fn put_argument(i: usize, words: &mut [u8], at: usize) -> usize

@@ -1,9 +1,7 @@
 // What formats and refusals are called.
-use crate::words::item;
-use crate::words::place_in;
+use arguments::words::item;
 use leaves::encoder::EncodedBmpFormat;
 use leaves::error::Refusal;
-use leaves::image::BmpPixelFormat;
 use libc::STDOUT_FILENO;
 
 pub fn text(words: &[u8]) {
@@ -12,34 +10,6 @@ pub fn text(words: &[u8]) {
 
 pub fn decimal(n: u64) {
     io::print_decimal(STDOUT_FILENO, n);
-}
-
-// The number of the layout that is so called; 10 where none is.
-fn format_number(name: &[u8]) -> usize {
-    place_in(
-        b"rgba,rgb24,bgra,bgr24,rgb555,rgb565,indexed4,indexed2,indexed1,pal8",
-        name,
-    )
-}
-
-pub fn is_format(name: &[u8]) -> bool {
-    format_number(name) < 10
-}
-
-// The layout that is so called; Pal8 where none is.
-pub fn format_named(name: &[u8]) -> BmpPixelFormat {
-    match format_number(name) {
-        0 => BmpPixelFormat::Rgba,
-        1 => BmpPixelFormat::Rgb24,
-        2 => BmpPixelFormat::Bgra,
-        3 => BmpPixelFormat::Bgr24,
-        4 => BmpPixelFormat::Rgb555,
-        5 => BmpPixelFormat::Rgb565,
-        6 => BmpPixelFormat::Indexed4,
-        7 => BmpPixelFormat::Indexed2,
-        8 => BmpPixelFormat::Indexed1,
-        _ => BmpPixelFormat::Pal8,
-    }
 }
 
 fn written_number(format: EncodedBmpFormat) -> usize {

@@ -1,16 +1,16 @@
 // Runs the command lines that come on standard input, and prints after each what out.bmp then is. A line
 // 'zeros NAME N' is not a command: it makes a file of N zero bytes.
+use arguments::numbers::NOT_A_NUMBER;
+use arguments::numbers::number;
+use arguments::options::word;
+use arguments::words::end_of;
+use arguments::words::part;
+use arguments::words::same;
 use command::files::FileRead;
 use command::files::read_file;
 use command::names::text;
 use command::run::print_size;
 use command::run::run;
-use command::words::NOT_A_NUMBER;
-use command::words::end_of;
-use command::words::number;
-use command::words::part;
-use command::words::same;
-use command::words::word;
 use libc::STDIN_FILENO;
 
 fn make_zeros(name: &[u8], n: u64) {

@@ -1,75 +1,29 @@
+use mathlib.Core.List.{List, [], _∷_, _++_}
+use mathlib.Core.Path.{refl, _≡_}
+use Prim.Native.Nat.{ℕ, _-_}
 use native.Mathlib.Omega.{arith}
 use lib.ListN.{length}
-use Prim.Native.Nat.{_-_, _≤_}
+use Rattle.command.specs.Checksum.{crcByte, crcOf, bytesIn, cksum}
 use Rattle.command.proofs.files.checksum.Statement.{statement}
 use Rattle.command.proofs.files.checksum.Tie as tie
 
-abbrev Inv-loop : tie.InvT-loop
-Inv-loop bytes sum₀ i₀ sum i = i ≤ length bytes
+joined : (r : ℕ) (xs ys : List ℕ) → crcOf (crcOf r xs) ys ≡ crcOf r (xs ++ ys)
+unfolding crcOf
+joined r [] ys = refl
+joined r (x ∷ xs) ys = joined (crcByte r x) xs ys
 
-abbrev μ-loop : tie.MeasureT-loop
-μ-loop bytes sum₀ i₀ sum i = length bytes - i
+inverted : (bytes : List ℕ) (sum whole : ℕ) → sum ≡ crcOf 0 bytes → whole ≡ crcOf sum (bytesIn 8 (length bytes)) → 0xFFFFFFFF - whole ≡ cksum bytes
+unfolding cksum
+inverted bytes sum whole e f = rw (f, e, joined 0 bytes (bytesIn 8 (length bytes)))
 
-abbrev Inv-loop2 : tie.InvT-loop2
-Inv-loop2 bytes sum₀ i left₀ sum left = 0 ≤ left
+of-bytes-requires : tie.Need-of-bytes-requires
+of-bytes-requires c κs = omega arith
 
-abbrev μ-loop2 : tie.MeasureT-loop2
-μ-loop2 bytes sum₀ i left₀ sum left = left
+with-number-requires : tie.Need-with-number-requires
+with-number-requires c κs = omega arith
 
-loop-holds : tie.Need-loop-holds Inv-loop μ-loop Inv-loop2 μ-loop2
-loop-holds c = omega arith
-
-shared-slice-read-with-byte :
-    tie.Need-shared-slice-read-with-byte Inv-loop μ-loop Inv-loop2 μ-loop2
-shared-slice-read-with-byte c = omega arith
-
-with-byte-requires : tie.Need-with-byte-requires Inv-loop μ-loop Inv-loop2 μ-loop2
-with-byte-requires c κs = omega arith
-
-add-i : tie.Need-add-i Inv-loop μ-loop Inv-loop2 μ-loop2
-add-i c = omega arith
-
-loop-less : tie.Need-loop-less Inv-loop μ-loop Inv-loop2 μ-loop2
-loop-less c = omega arith
-
-loop-again : tie.Need-loop-again Inv-loop μ-loop Inv-loop2 μ-loop2
-loop-again c = omega arith
-
-loop2-holds : tie.Need-loop2-holds Inv-loop μ-loop Inv-loop2 μ-loop2
-loop2-holds c = omega arith
-
-cast-with-byte : tie.Need-cast-with-byte Inv-loop μ-loop Inv-loop2 μ-loop2
-cast-with-byte c = omega arith
-
-with-byte-requires-2 : tie.Need-with-byte-requires-2 Inv-loop μ-loop Inv-loop2 μ-loop2
-with-byte-requires-2 c κs = omega arith
-
-loop2-less : tie.Need-loop2-less Inv-loop μ-loop Inv-loop2 μ-loop2
-loop2-less c = omega arith
-
-loop2-again : tie.Need-loop2-again Inv-loop μ-loop Inv-loop2 μ-loop2
-loop2-again c = omega arith
-
-returns : tie.Need-returns Inv-loop μ-loop Inv-loop2 μ-loop2
-returns c = omega arith
+returns : tie.Need-returns
+returns c = inverted (c .before .before .before .args .bytes .now) (c .before .of-bytes .result) (c .with-number .result) (c .before .of-bytes .ensures) (c .with-number .ensures)
 
 pub checksum-spec : {M : Type 1} → statement M
-checksum-spec =
-    tie.close
-    (tie.spec
-    Inv-loop
-    μ-loop
-    Inv-loop2
-    μ-loop2
-    loop-holds
-    shared-slice-read-with-byte
-    with-byte-requires
-    add-i
-    loop-less
-    loop-again
-    loop2-holds
-    cast-with-byte
-    with-byte-requires-2
-    loop2-less
-    loop2-again
-    returns)
+checksum-spec = tie.close (tie.spec of-bytes-requires with-number-requires returns)

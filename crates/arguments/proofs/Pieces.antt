@@ -1,0 +1,237 @@
+-- Laws of words and items at a place of a text.
+use mathlib.Core.Path.{_≡_, refl, sym, ap, _∙_}
+use mathlib.Core.Bool.{Bool, true, false, cond, _&&_}
+use mathlib.Core.List.{List, [], _∷_}
+use Prim.Native.Nat.{ℕ, suc, _+_, _-_, _≤_, _<_}
+use native.Mathlib.Nat.{not-suc-le-zero, le-of-lt, sub-zero}
+use native.Mathlib.Numerals.{add-one}
+use native.Mathlib.Omega.{arith}
+use borrow.Author.Tests.{eq-eqb, ne-eqb, eqb-true, eqb-false, le-leb, leb-false}
+use lib.Dec.{eqb, leb}
+use lib.ListN.{length, getD, take, drop, drop-of-length-le, length-drop}
+use lib.Seq.{drop-cons, drop-drop, take-all}
+use Rattle.arguments.specs.Words.{upTo, onto, pieces, wordsOf, itemsOf, itemAt, alike, placeAmong}
+
+-- one number more that it is not
+pub above : (k n : ℕ) → k ≤ n → (n ≡ k → ⊥) → k + 1 ≤ n
+above k n h e = omega arith
+
+-- the rest of a text, its first byte apart
+pub split : (text : List ℕ) (at : ℕ) → at < length text → drop at text ≡ getD text at 0 ∷ drop (at + 1) text
+split text at inside = rw (add-one at) (drop-cons text at 0 inside)
+
+-- ---- the bytes before a mark
+
+module _ (mark : ℕ) (text : List ℕ) (at : ℕ) where
+  pub up-end : length text ≤ at → upTo mark (drop at text) ≡ []
+  unfolding upTo
+  up-end h = rw (drop-of-length-le text h)
+
+  module _ (inside : at < length text) where
+    pub up-mark : getD text at 0 ≡ mark → upTo mark (drop at text) ≡ []
+    unfolding upTo
+    up-mark e = rw (split text at inside, eq-eqb (getD text at 0) mark e)
+
+    pub up-step : (getD text at 0 ≡ mark → ⊥) → upTo mark (drop at text) ≡ getD text at 0 ∷ upTo mark (drop (at + 1) text)
+    unfolding upTo
+    up-step n = rw (split text at inside, ne-eqb (getD text at 0) mark n)
+
+pub take-up : (mark : ℕ) (xs : List ℕ) → take (length (upTo mark xs)) xs ≡ upTo mark xs
+unfolding upTo
+take-up mark [] = refl
+take-up mark (x ∷ xs) = go (eqb x mark) (take-up mark xs)
+  where
+    go : (b : Bool) → take (length (upTo mark xs)) xs ≡ upTo mark xs → take (length (cond b [] (x ∷ upTo mark xs))) (x ∷ xs) ≡ cond b [] (x ∷ upTo mark xs)
+    go true e = refl
+    go false e = ap (λ (r : List ℕ). x ∷ r) e
+
+-- ---- items
+
+-- a byte ends one item at most
+pub one-at-most : (ends : Bool) (n : ℕ) → n ≡ cond ends 1 0 → n ≤ 1
+one-at-most true n e = omega arith
+one-at-most false n e = omega arith
+
+at-least-one : (mark : ℕ) (xs : List ℕ) → 1 ≤ length (itemsOf mark xs)
+unfolding itemsOf pieces onto
+at-least-one mark [] = omega arith
+at-least-one mark (x ∷ xs) = go (eqb x mark) (itemsOf mark xs)
+  where
+    go : (b : Bool) (ps : List (List ℕ)) → 1 ≤ length (cond b ([] ∷ ps) (onto x ps))
+    go true ps = omega arith
+    go false [] = omega arith
+    go false (p ∷ ps) = omega arith
+
+-- the first item, or none, of pieces: what stands before the first mark
+first-up : (mark : ℕ) (rest : List (List ℕ)) (xs : List ℕ) → itemAt rest 0 ≡ [] → itemAt (pieces mark rest xs) 0 ≡ upTo mark xs
+unfolding pieces onto upTo itemAt
+first-up mark rest [] e = e
+first-up mark rest (x ∷ xs) e = go (eqb x mark) (pieces mark rest xs) (first-up mark rest xs e)
+  where
+    go : (b : Bool) (ps : List (List ℕ)) → itemAt ps 0 ≡ upTo mark xs → itemAt (cond b ([] ∷ ps) (onto x ps)) 0 ≡ cond b [] (x ∷ upTo mark xs)
+    go true ps q = refl
+    go false [] q = ap (λ (r : List ℕ). x ∷ r) q
+    go false (p ∷ ps) q = ap (λ (r : List ℕ). x ∷ r) q
+
+pub first-item : (mark : ℕ) (xs : List ℕ) → itemAt (itemsOf mark xs) 0 ≡ upTo mark xs
+unfolding itemsOf itemAt
+first-item mark xs = first-up mark ([] ∷ []) xs refl
+
+pub first-word : (xs : List ℕ) → itemAt (wordsOf xs) 0 ≡ upTo 0 xs
+unfolding wordsOf itemAt
+first-word xs = first-up 0 [] xs refl
+
+length-onto : (x : ℕ) (ps : List (List ℕ)) → 1 ≤ length ps → length (onto x ps) ≡ length ps
+unfolding onto
+length-onto x [] h = absurd (not-suc-le-zero h)
+length-onto x (p ∷ ps) h = refl
+
+later-onto : (x : ℕ) (ps : List (List ℕ)) (k : ℕ) → itemAt (onto x ps) (suc k) ≡ itemAt ps (suc k)
+unfolding onto itemAt
+later-onto x [] k = refl
+later-onto x (p ∷ ps) k = refl
+
+module _ (mark : ℕ) (text : List ℕ) (at : ℕ) where
+  pub items-end : length text ≤ at → itemsOf mark (drop at text) ≡ [] ∷ []
+  unfolding itemsOf pieces
+  items-end h = rw (drop-of-length-le text h)
+
+  module _ (inside : at < length text) where
+    -- a mark begins a new item
+    pub items-mark : getD text at 0 ≡ mark → itemsOf mark (drop at text) ≡ [] ∷ itemsOf mark (drop (at + 1) text)
+    unfolding itemsOf pieces
+    items-mark e = rw (split text at inside, eq-eqb (getD text at 0) mark e)
+
+    items-other : (getD text at 0 ≡ mark → ⊥) → itemsOf mark (drop at text) ≡ onto (getD text at 0) (itemsOf mark (drop (at + 1) text))
+    unfolding itemsOf pieces
+    items-other n = rw (split text at inside, ne-eqb (getD text at 0) mark n)
+
+    -- and any other byte none
+    length-other : (getD text at 0 ≡ mark → ⊥) → length (itemsOf mark (drop at text)) ≡ length (itemsOf mark (drop (at + 1) text))
+    length-other n = ap length (items-other n) ∙ length-onto (getD text at 0) (itemsOf mark (drop (at + 1) text)) (at-least-one mark (drop (at + 1) text))
+
+    pub length-step : (n : ℕ) → n ≡ cond (eqb (getD text at 0) mark) 1 0 → length (itemsOf mark (drop at text)) ≡ n + length (itemsOf mark (drop (at + 1) text))
+    length-step n e = go (eqb (getD text at 0) mark) refl
+      where
+        go : (b : Bool) → eqb (getD text at 0) mark ≡ b → length (itemsOf mark (drop at text)) ≡ n + length (itemsOf mark (drop (at + 1) text))
+        go true q = let one : n ≡ 1 = rw q at e in omega (arith, ap length (items-mark (eqb-true (getD text at 0) mark q)))
+        go false q = let none : n ≡ 0 = rw q at e in omega (arith, length-other (eqb-false (getD text at 0) mark q))
+
+    pub later-other : (k : ℕ) → (getD text at 0 ≡ mark → ⊥) → itemAt (itemsOf mark (drop at text)) (suc k) ≡ itemAt (itemsOf mark (drop (at + 1) text)) (suc k)
+    later-other k n = ap (λ (ps : List (List ℕ)). itemAt ps (suc k)) (items-other n) ∙ later-onto (getD text at 0) (itemsOf mark (drop (at + 1) text)) k
+
+-- ---- words
+
+pub words-first : (x : ℕ) (xs : List ℕ) → wordsOf (x ∷ xs) ≡ upTo 0 (x ∷ xs) ∷ wordsOf (drop (length (upTo 0 (x ∷ xs))) xs)
+unfolding wordsOf pieces upTo onto
+words-first x [] = go (eqb x 0)
+  where
+    go : (b : Bool) → cond b ([] ∷ []) ((x ∷ []) ∷ []) ≡ cond b [] (x ∷ []) ∷ wordsOf (drop (length (cond b [] (x ∷ []))) [])
+    go true = refl
+    go false = refl
+words-first x (y ∷ ys) = go (eqb x 0) (words-first y ys)
+  where
+    go : (b : Bool) → wordsOf (y ∷ ys) ≡ upTo 0 (y ∷ ys) ∷ wordsOf (drop (length (upTo 0 (y ∷ ys))) ys)
+        → cond b ([] ∷ wordsOf (y ∷ ys)) (onto x (wordsOf (y ∷ ys))) ≡ cond b [] (x ∷ upTo 0 (y ∷ ys)) ∷ wordsOf (drop (length (cond b [] (x ∷ upTo 0 (y ∷ ys)))) (y ∷ ys))
+    go true e = refl
+    go false e = ap (onto x) e
+
+module _ (text : List ℕ) (at : ℕ) where
+  pub words-end : length text ≤ at → wordsOf (drop at text) ≡ []
+  unfolding wordsOf pieces
+  words-end h = rw (drop-of-length-le text h)
+
+  -- the word at a place, and those after it
+  pub words-at : at < length text → wordsOf (drop at text) ≡ upTo 0 (drop at text) ∷ wordsOf (drop (at + length (upTo 0 (drop at text)) + 1) text)
+  words-at h =
+      let r = length (upTo 0 (drop at text)) in
+      let e : drop at text ≡ getD text at 0 ∷ drop (at + 1) text = split text at h in
+      let n : at + 1 + r ≡ at + r + 1 = omega arith in
+      let d : drop r (drop (at + 1) text) ≡ drop (at + r + 1) text = drop-drop r (at + 1) text ∙ ap (λ (k : ℕ). drop k text) n in
+      let f = words-first (getD text at 0) (drop (at + 1) text) in
+      (rw (← e, d) at f)
+
+-- ---- texts that are alike
+
+pub unlike-length : (a b : List ℕ) → (length a ≡ length b → ⊥) → alike a b ≡ false
+unfolding alike
+unlike-length [] [] n = absurd (n refl)
+unlike-length [] (y ∷ ys) n = refl
+unlike-length (x ∷ xs) [] n = refl
+unlike-length (x ∷ xs) (y ∷ ys) n = go (eqb x y) (unlike-length xs ys (λ e. n (ap suc e)))
+  where
+    go : (b : Bool) → alike xs ys ≡ false → (b && alike xs ys) ≡ false
+    go true e = e
+    go false e = refl
+
+module _ (a b : List ℕ) (i : ℕ) (long : length a ≡ length b) where
+  pub alike-end : length a ≤ i → alike (drop i a) (drop i b) ≡ true
+  unfolding alike
+  alike-end h =
+      let k : length b ≤ i = omega arith in
+      rw (drop-of-length-le a h, drop-of-length-le b k)
+
+  module _ (inside : i < length a) where
+    alike-here : alike (drop i a) (drop i b) ≡ (eqb (getD a i 0) (getD b i 0) && alike (drop (i + 1) a) (drop (i + 1) b))
+    unfolding alike
+    alike-here =
+        let k : i < length b = omega arith in
+        rw (split a i inside, split b i k)
+
+    pub alike-step : getD a i 0 ≡ getD b i 0 → alike (drop i a) (drop i b) ≡ alike (drop (i + 1) a) (drop (i + 1) b)
+    alike-step e = rw (alike-here, eq-eqb (getD a i 0) (getD b i 0) e)
+
+    pub unlike : (getD a i 0 ≡ getD b i 0 → ⊥) → alike (drop i a) (drop i b) ≡ false
+    unlike n = rw (alike-here, ne-eqb (getD a i 0) (getD b i 0) n)
+
+-- ---- parts of a text
+
+-- what `part` returns
+abbrev pub partOf : List ℕ → ℕ → ℕ → List ℕ
+partOf text from to = cond (leb from to && leb to (length text)) (take (to - from) (drop from text)) []
+
+pub part-up : (mark : ℕ) (text : List ℕ) (at to : ℕ) (part : List ℕ) → part ≡ partOf text at to → to ≡ at + length (upTo mark (drop at text)) → to ≤ length text
+    → part ≡ upTo mark (drop at text)
+part-up mark text at to part is e h =
+    let n : to - at ≡ length (upTo mark (drop at text)) = omega arith in
+    is ∙ rw (le-leb at to (omega arith), le-leb to (length text) h, n) (take-up mark (drop at text))
+
+pub part-rest : (text : List ℕ) (from : ℕ) → partOf text from (length text) ≡ drop from text
+part-rest text from = go (leb from (length text)) refl
+  where
+    go : (b : Bool) → leb from (length text) ≡ b → partOf text from (length text) ≡ drop from text
+    go true q =
+        let h : length (drop from text) ≤ length text - from = omega (arith, length-drop from text) in
+        rw (q, le-leb (length text) (length text) (omega arith)) (take-all (length text - from) (drop from text) h)
+    go false q = rw q (sym (drop-of-length-le text (le-of-lt (leb-false from (length text) q))))
+
+-- a text that begins as another: a shorter one does not
+pub alike-start : (text start : List ℕ) → 1 ≤ length start → alike (partOf text 0 (length start)) start ≡ alike (take (length start) text) start
+alike-start text start some = go (leb (length start) (length text)) refl
+  where
+    go : (b : Bool) → leb (length start) (length text) ≡ b → alike (partOf text 0 (length start)) start ≡ alike (take (length start) text) start
+    go true q = rw (le-leb 0 (length start) (omega arith), q, sub-zero (length start))
+    go false q =
+        let short : length text < length start = leb-false (length start) (length text) q in
+        let all : take (length start) text ≡ text = take-all (length start) text (omega arith) in
+        rw (q, all, le-leb 0 (length start) (omega arith)) (unlike-length [] start (λ e. omega arith) ∙ sym (unlike-length text start (λ e. omega arith)))
+
+-- ---- a name among items
+
+pub split-items : (ps : List (List ℕ)) (k : ℕ) → k < length ps → drop k ps ≡ itemAt ps k ∷ drop (k + 1) ps
+unfolding itemAt
+split-items ps k inside = rw (add-one k) (drop-cons ps k [] inside)
+
+module _ (ps : List (List ℕ)) (name : List ℕ) (k : ℕ) where
+  pub place-end : length ps ≤ k → placeAmong (drop k ps) name ≡ 0
+  unfolding placeAmong
+  place-end h = rw (drop-of-length-le ps h)
+
+  module _ (inside : k < length ps) where
+    pub place-here : alike (itemAt ps k) name ≡ true → placeAmong (drop k ps) name ≡ 0
+    unfolding placeAmong
+    place-here e = rw (split-items ps k inside, e)
+
+    pub place-later : alike (itemAt ps k) name ≡ false → placeAmong (drop k ps) name ≡ suc (placeAmong (drop (k + 1) ps) name)
+    unfolding placeAmong
+    place-later e = rw (split-items ps k inside, e)

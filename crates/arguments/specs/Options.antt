@@ -1,0 +1,193 @@
+-- A command's options, and what they ask for together.
+use mathlib.Core.Bool.{Bool, true, false, cond, not, _&&_, _||_}
+use mathlib.Core.List.{List, [], _∷_, map}
+use Prim.Native.Nat.{ℕ, _*_}
+use Prim.Native.String.{String}
+use lib.Dec.{eqb, ltb, leb}
+use lib.IntN.{ℤ}
+use lib.ListN.{getD}
+use Rattle.leaves.specs.declared.bitfields.BmpBitfields.{BmpBitfields}
+use Rattle.leaves.specs.declared.encoder.EncodeSource.{EncodeSource}
+use Rattle.leaves.specs.declared.image.BmpPixelFormat.{BmpPixelFormat}
+use Rattle.leaves.specs.declared.image.BmpPixelFormat.the-variants.{Rgba, Rgb24, Bgra, Bgr24, Rgb555, Rgb565, Pal8, Indexed4, Indexed2, Indexed1}
+use Rattle.leaves.specs.declared.options.CalibratedRgb.{CalibratedRgb}
+use Rattle.leaves.specs.declared.options.EncodeOptions.{EncodeOptions}
+use Rattle.leaves.specs.Formats.{bytesPerPixel}
+use Rattle.arguments.specs.Texts.{bytesOf}
+use Rattle.arguments.specs.Words.{itemsOf, itemAt, placeAmong}
+use Rattle.arguments.specs.Numbers.{numberOf, isNumber, isNumber32, number16, number32, signed32, areNumbers}
+
+-- ---- the options by number
+
+-- The first four stand alone, and each of the others has a value behind it.
+unfoldable pub optionNames : List (List ℕ)
+optionNames =
+    map bytesOf
+    ("--top-down"
+    ∷ "--minimal-palette"
+    ∷ "--no-rle"
+    ∷ "--no-embed-icc"
+    ∷ "--format"
+    ∷ "--width"
+    ∷ "--height"
+    ∷ "--stride"
+    ∷ "--rendering-intent"
+    ∷ "--bitfields"
+    ∷ "--calibrated-rgb"
+    ∷ "--plane"
+    ∷ "--palette"
+    ∷ "--icc"
+    ∷ "--linked-icc"
+    ∷ "--out"
+    ∷ [])
+
+-- an option's number; 16 for any other word
+unfoldable pub optionNamed : List ℕ → ℕ
+optionNamed = placeAmong optionNames
+
+unfoldable pub standsAlone : ℕ → Bool
+standsAlone option = leb option 3
+
+-- the words from each option on
+unfoldable pub optionsIn : List (List ℕ) → List (List (List ℕ))
+optionsIn [] = []
+optionsIn (w ∷ []) = (w ∷ []) ∷ []
+optionsIn (w ∷ v ∷ ws) = (w ∷ v ∷ ws) ∷ cond (standsAlone (optionNamed w)) (optionsIn (v ∷ ws)) (optionsIn ws)
+
+-- the first word, and the second; empty where there is none
+unfoldable pub first : List (List ℕ) → List ℕ
+first ws = itemAt ws 0
+
+unfoldable pub second : List (List ℕ) → List ℕ
+second ws = itemAt ws 1
+
+unfoldable pub isNone : List (List ℕ) → Bool
+isNone [] = true
+isNone (w ∷ ws) = false
+
+-- ---- one option
+
+-- the last that gives an option, of the words from each option on; none where it is not given
+unfoldable pub lastOf : ℕ → List (List (List ℕ)) → List (List ℕ)
+lastOf option [] = []
+lastOf option (ws ∷ rest) =
+    cond (isNone (lastOf option rest)) (cond (eqb (optionNamed (first ws)) option) ws []) (lastOf option rest)
+
+-- the words from where an option is given last
+unfoldable pub lastGiven : ℕ → List (List ℕ) → List (List ℕ)
+lastGiven option ws = lastOf option (optionsIn ws)
+
+unfoldable pub isGiven : ℕ → List (List ℕ) → Bool
+isGiven option ws = not (isNone (lastGiven option ws))
+
+-- the word behind an option; empty where there is none
+unfoldable pub valueOf : ℕ → List (List ℕ) → List ℕ
+valueOf option ws = second (lastGiven option ws)
+
+-- ---- layouts by name
+
+unfoldable pub formatNames : List (List ℕ)
+formatNames =
+    map bytesOf ("rgba" ∷ "rgb24" ∷ "bgra" ∷ "bgr24" ∷ "rgb555" ∷ "rgb565" ∷ "indexed4" ∷ "indexed2" ∷ "indexed1" ∷ "pal8" ∷ [])
+
+unfoldable pub isFormat : List ℕ → Bool
+isFormat name = ltb (placeAmong formatNames name) 10
+
+-- the layout that is so called; Pal8 where none is
+unfoldable pub formatNamed : List ℕ → BmpPixelFormat
+formatNamed name =
+    getD (Rgba ∷ Rgb24 ∷ Bgra ∷ Bgr24 ∷ Rgb555 ∷ Rgb565 ∷ Indexed4 ∷ Indexed2 ∷ Indexed1 ∷ []) (placeAmong formatNames name) Pal8
+
+-- ---- what is not understood, by number
+
+-- 0 is understood, 1 no option, 2 no value, 3 no number, 4 no layout, 5 no masks, 6 no calibrated colour
+unfoldable pub unless : Bool → ℕ → ℕ
+unless good fault = cond good 0 fault
+
+-- a depth of 16 bits and four masks of 32
+unfoldable pub areMasks : List ℕ → Bool
+areMasks list = areNumbers 5 0 list && leb (numberOf (itemAt (itemsOf 44 list) 0)) 0xFFFF
+
+-- the number of the option that is so called
+abbrev pub numbered : String → ℕ
+numbered name = optionNamed (bytesOf name)
+
+unfoldable pub faultOf : ℕ → List ℕ → ℕ
+faultOf option value =
+    cond (eqb option (numbered "--format")) (unless (isFormat value) 4)
+    (cond (eqb option (numbered "--width") || eqb option (numbered "--height") || eqb option (numbered "--rendering-intent")) (unless (isNumber32 value) 3)
+    (cond (eqb option (numbered "--stride")) (unless (isNumber value) 3)
+    (cond (eqb option (numbered "--bitfields")) (unless (areMasks value) 5)
+    (cond (eqb option (numbered "--calibrated-rgb")) (unless (areNumbers 12 9 value) 6)
+    (cond (leb (numbered "--plane") option && leb option (numbered "--out")) 0 1)))))
+
+-- what is wrong with the option that words begin with
+unfoldable pub faultAt : List (List ℕ) → ℕ
+faultAt [] = 2
+faultAt (w ∷ []) = cond (standsAlone (optionNamed w)) 0 2
+faultAt (w ∷ v ∷ ws) = cond (standsAlone (optionNamed w)) 0 (faultOf (optionNamed w) v)
+
+-- the first that is not understood, of the words from each option on
+unfoldable pub firstOf : List (List (List ℕ)) → List (List ℕ)
+firstOf [] = []
+firstOf (ws ∷ rest) = cond (eqb (faultAt ws) 0) (firstOf rest) ws
+
+-- the words from the first option on that is not understood
+unfoldable pub firstFault : List (List ℕ) → List (List ℕ)
+firstFault ws = firstOf (optionsIn ws)
+
+-- ---- what is asked for
+
+-- where no stride is given, rows stand close
+unfoldable pub strideAsked : List (List ℕ) → ℕ → BmpPixelFormat → ℕ
+strideAsked ws width format =
+    cond (isGiven (numbered "--stride") ws) (numberOf (valueOf (numbered "--stride") ws)) (bytesPerPixel format * width)
+
+unfoldable pub sourceAsked : List (List ℕ) → EncodeSource
+sourceAsked ws =
+    let format = formatNamed (valueOf (numbered "--format") ws) in
+    let width = number32 (valueOf (numbered "--width") ws) in
+    record {
+      format = format;
+      width = width;
+      height = number32 (valueOf (numbered "--height") ws);
+      stride = strideAsked ws width format;
+      «has_palette» = isGiven (numbered "--palette") ws;
+      «has_icc» = isGiven (numbered "--icc") ws;
+      «has_linked_icc» = isGiven (numbered "--linked-icc") ws;
+    }
+
+-- a depth and four masks
+unfoldable pub masksAsked : List ℕ → BmpBitfields
+masksAsked list =
+    let part : ℕ → List ℕ = λ k. itemAt (itemsOf 44 list) k in
+    let mask : ℕ → ℕ = λ k. number32 (part k) in
+    record { bpp = number16 (part 0); masks = mask 1 ∷ mask 2 ∷ mask 3 ∷ mask 4 ∷ [] }
+
+-- nine endpoints and three gammas
+unfoldable pub calibratedAsked : List ℕ → CalibratedRgb
+calibratedAsked list =
+    let part : ℕ → List ℕ = λ k. itemAt (itemsOf 44 list) k in
+    let endpoint : ℕ → ℤ = λ k. signed32 (part k) in
+    record {
+      endpoints = endpoint 0 ∷ endpoint 1 ∷ endpoint 2 ∷ endpoint 3 ∷ endpoint 4 ∷ endpoint 5 ∷ endpoint 6 ∷ endpoint 7 ∷ endpoint 8 ∷ [];
+      gamma = number32 (part 9) ∷ number32 (part 10) ∷ number32 (part 11) ∷ [];
+    }
+
+-- LCS_GM_IMAGES where none is given
+unfoldable pub intentAsked : List (List ℕ) → ℕ
+intentAsked ws = cond (isGiven (numbered "--rendering-intent") ws) (number32 (valueOf (numbered "--rendering-intent") ws)) 4
+
+unfoldable pub optionsAsked : List (List ℕ) → EncodeOptions
+optionsAsked ws =
+    record {
+      «top_down» = isGiven (numbered "--top-down") ws;
+      «minimal_palette» = isGiven (numbered "--minimal-palette") ws;
+      rle = not (isGiven (numbered "--no-rle") ws);
+      «has_bitfields» = isGiven (numbered "--bitfields") ws;
+      bitfields = masksAsked (valueOf (numbered "--bitfields") ws);
+      «embed_icc» = not (isGiven (numbered "--no-embed-icc") ws);
+      «rendering_intent» = intentAsked ws;
+      «has_calibrated_rgb» = isGiven (numbered "--calibrated-rgb") ws;
+      «calibrated_rgb» = calibratedAsked (valueOf (numbered "--calibrated-rgb") ws);
+    }
