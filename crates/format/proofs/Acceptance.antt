@@ -124,7 +124,7 @@ plane w h stride n bytes e =
     (ltb-false bytes (stride * h) (twelve .0), ltb-false stride (w * n) (thirteen .0))
 
 -- 6 to 11 passed
-given-masks : (i : Input) → firstOf (givenMasksRows i) ≡ Passed → i .options .«has_bitfields» ≡ true
+pub given-masks : (i : Input) → firstOf (givenMasksRows i) ≡ Passed → i .options .«has_bitfields» ≡ true
     → MasksAccepted (i .options .bitfields .bpp) (i .options .bitfields .masks) × (maskSource (i .source .format) ≡ false)
 unfolding givenMasksRows
 given-masks i e q =

@@ -1,0 +1,455 @@
+-- Plan::new follows the rows 1 to 13, and ends with the sizes of the document's head over the document's rows.
+use mathlib.Core.Path.{_≡_, refl, sym, ap, _∙_, subst}
+use mathlib.Core.Bool.{Bool, true, false, not, cond, _&&_, _||_, false≢true}
+use mathlib.Core.Logic.{_⊎_, inl, inr}
+use mathlib.Core.List.{List, [], _∷_, _++_}
+use Prim.Native.Nat.{ℕ, zero, _+_, _-_, _*_, _/_, _^_, _≤_, _<_, min, max}
+use native.Mathlib.Nat.{min-eq-left, min-eq-right, max-eq-left, max-eq-right}
+use native.Mathlib.Omega.{arith}
+use borrow.Author.Tests.{ltb-true, ltb-false}
+use lib.Dec.{ltb}
+use lib.ListN.{length, getD, take, drop, replicate}
+use Rattle.leaves.specs.declared.image.BmpPixelFormat.{BmpPixelFormat}
+use Rattle.leaves.specs.declared.image.BmpPixelFormat.the-variants as source
+use Rattle.leaves.specs.declared.encoder.EncodedBmpFormat.{EncodedBmpFormat}
+use Rattle.leaves.specs.declared.encoder.EncodedBmpFormat.the-variants as written
+use Rattle.leaves.specs.declared.error.Refusal.{Refusal}
+use Rattle.leaves.specs.declared.error.Refusal.the-variants.{ZeroDimension, DimensionTooLarge, PaletteMissing, PaletteNotQuads, SeveralModes, MaskSource, FileTooLarge}
+use Rattle.leaves.specs.declared.error.Check.the-variants.{Passed, Refused}
+use Rattle.leaves.specs.Formats as formats
+use Rattle.leaves.specs.Masks.{isOneRun, hasAlphaMask, bitfieldsRows}
+use Rattle.leaves.specs.Refusals.{numberOf, checkNumber, firstOf, firstNumber, profileMode, one, dimensionTooLarge, paletteMissing, paletteNotQuads, dimensionRows, paletteRows, modeRows, planeRows}
+use Rattle.leaves.specs.Sizes as counts
+use Rattle.leaves.proofs.ListLaws.{length-tab}
+use Rattle.format.specs.File.{Mode, masked, calibrated, profiled, plain, modeOf, tailOf, depthIn, plainPack, packIn, layoutOf, entriesOf}
+use Rattle.format.specs.Input.{Input}
+use Rattle.format.specs.Refusals.{maskSource, givenMasksRows, checkRows, fileTooLarge, planRows}
+use Rattle.leaves.proofs.FirstOf.{first-pass, first-stop}
+use Rattle.leaves.specs.Refusals as rows
+use Rattle.format.proofs.Acceptance.{masks-accepted, given-masks}
+use Rattle.format.proofs.Modes.{masks-given}
+use Rattle.format.proofs.Passing.{first-parts, row-parts}
+use Rattle.reference.specs.Rust.{zeroDimension, requiresPalette, mutuallyExclusive, bitfieldsSource, Run, done, fails, panics, _>>=_, _>>_, some, none, failIf, okOr, isSome}
+use Rattle.reference.specs.Types.{BmpBitfields, Palette, EncodeSource, EncodeOptions, bytesPerPixel, bitsPerPixel, isIndexed, blueFirst, plainToken}
+use Rattle.reference.specs.Bitfields.{validate}
+use Rattle.reference.specs.Packing.{RowPack, packBits, sourceBytes, newLayout, packMasks, Rows, newRows}
+use Rattle.reference.specs.Packing as Packing
+use Rattle.reference.specs.Headers.{paletteEntryCount}
+use Rattle.reference.specs.Plan.{ColourHeader, Head, Sizes, Plan, writtenPaletteEntries, sizesOf, maxFile, assemble, plainIndexed, plainHead, planBitfields, colourIndexed, colourHead, colourRows, fromBool, profileOf, planFor, newPlan}
+use Rattle.reference.specs.Plan as reference
+use Rattle.reference.specs.Compared.{given, entriesIn, masksOf, sourceOf, optionsOf, Typed, Domain}
+use Rattle.reference.proofs.PackingLaws.{packOf}
+use Rattle.reference.proofs.PackingLaws.{layoutOf as layoutIn}
+use Rattle.reference.proofs.QuantiseLaws.{shift-len-is}
+use Rattle.reference.proofs.ValidateLaws.{validated}
+use Rattle.reference.proofs.NewRows.{rowsFor, new-rows}
+use Rattle.reference.proofs.HeadLaws.{count-is}
+use Rattle.reference.proofs.PlanHeads.{paletteIn, colourHeaderFor, plainHeadFor, headFor}
+use Rattle.reference.proofs.Follows as follow
+use Rattle.reference.proofs.Follows.{Follows}
+
+-- ---- the formats' tables are the document's
+
+pub record SameTables (f : BmpPixelFormat) : Type 0 where
+  pub bytes : bytesPerPixel f ≡ formats.bytesPerPixel f
+  pub bits : bitsPerPixel f ≡ formats.bitsPerPixel f
+  pub indexed : isIndexed f ≡ formats.isIndexed f
+  pub token : plainToken f ≡ formats.plainToken f
+
+pub tables : (f : BmpPixelFormat) → SameTables f
+tables source.Rgba = record { bytes = refl; bits = refl; indexed = refl; token = refl }
+tables source.Rgb24 = record { bytes = refl; bits = refl; indexed = refl; token = refl }
+tables source.Bgra = record { bytes = refl; bits = refl; indexed = refl; token = refl }
+tables source.Bgr24 = record { bytes = refl; bits = refl; indexed = refl; token = refl }
+tables source.Rgb555 = record { bytes = refl; bits = refl; indexed = refl; token = refl }
+tables source.Rgb565 = record { bytes = refl; bits = refl; indexed = refl; token = refl }
+tables source.Pal8 = record { bytes = refl; bits = refl; indexed = refl; token = refl }
+tables source.Indexed4 = record { bytes = refl; bits = refl; indexed = refl; token = refl }
+tables source.Indexed2 = record { bytes = refl; bits = refl; indexed = refl; token = refl }
+tables source.Indexed1 = record { bytes = refl; bits = refl; indexed = refl; token = refl }
+
+-- ---- entries
+
+clamp-is : (n full : ℕ) → 1 ≤ full → cond (ltb n 1) 1 (cond (ltb full n) full n) ≡ min (max 1 n) full
+clamp-is n full h = go (ltb n 1) refl (ltb full n) refl
+  where
+    go : (a : Bool) → ltb n 1 ≡ a → (b : Bool) → ltb full n ≡ b → cond a 1 (cond b full n) ≡ min (max 1 n) full
+    go true p b q = let m : max 1 n ≡ 1 = max-eq-left (omega (arith, ltb-true n 1 p)) in rw m (sym (min-eq-left h))
+    go false p true q =
+        let m : max 1 n ≡ n = max-eq-right (ltb-false n 1 p) in
+        rw m (sym (min-eq-right (omega (arith, ltb-true full n q))))
+    go false p false q =
+        let m : max 1 n ≡ n = max-eq-right (ltb-false n 1 p) in
+        rw m (sym (min-eq-left (ltb-false full n q)))
+
+-- written_palette_entries is the document's count
+entries-is : (i : Input) (bpp : ℕ) → formats.isIndexed (i .source .format) ≡ true → formats.bitsPerPixel (i .source .format) ≡ bpp → 1 ≤ counts.paletteEntryCount bpp
+    → writtenPaletteEntries bpp (paletteIn i) (optionsOf i) ≡ entriesOf i
+unfolding writtenPaletteEntries entriesOf counts.writtenPaletteEntries entriesIn optionsOf
+entries-is i bpp indexed bits full =
+    let n : length (entriesIn (i .palette)) ≡ length (i .palette) / 4 = length-tab (λ k. take 4 (drop (k * 4) (i .palette))) (length (i .palette) / 4) in
+    rw (indexed, bits, count-is bpp, n, clamp-is (length (i .palette) / 4) (counts.paletteEntryCount bpp) full)
+
+-- ---- the heads and packs of each format
+
+module _ (i : Input) (palette : formats.isIndexed (i .source .format) ≡ true → i .source .«has_palette» ≡ true) where
+  -- the indexed arms
+  plain-indexed : (bpp : ℕ) → formats.isIndexed (i .source .format) ≡ true → bitsPerPixel (i .source .format) ≡ bpp → 1 ≤ counts.paletteEntryCount bpp
+      → plainIndexed (sourceOf i) (optionsOf i) ≡ done (reference.V3Indexed bpp (paletteIn i) (entriesOf i) (reference.rleFor (i .source .format) (optionsOf i)), Packing.Indexed bpp)
+  unfolding plainIndexed sourceOf
+  plain-indexed bpp indexed bits full =
+      let same : formats.bitsPerPixel (i .source .format) ≡ bpp = sym (tables (i .source .format) .bits) ∙ bits in
+      let rle = reference.rleFor (i .source .format) (optionsOf i) in
+      let arm : ℕ → Palette → Run (Head × RowPack) = λ d p. done (reference.V3Indexed d p (writtenPaletteEntries d p (optionsOf i)) rle, Packing.Indexed d) in
+      ap (λ b. okOr (given b (paletteIn i)) requiresPalette >>= arm (bitsPerPixel (i .source .format))) (palette indexed)
+      ∙ ap (λ d. arm d (paletteIn i)) bits
+      ∙ ap (λ n. done (reference.V3Indexed bpp (paletteIn i) n rle, Packing.Indexed bpp)) (entries-is i bpp indexed same full)
+
+  colour-indexed : (bpp : ℕ) → formats.isIndexed (i .source .format) ≡ true → bitsPerPixel (i .source .format) ≡ bpp → 1 ≤ counts.paletteEntryCount bpp
+      → colourIndexed (sourceOf i) (optionsOf i) ≡ done (Packing.Indexed bpp, record { bpp = bpp; compression = 0; masks = replicate 4 0; table = some (paletteIn i, entriesOf i) })
+  unfolding colourIndexed sourceOf
+  colour-indexed bpp indexed bits full =
+      let same : formats.bitsPerPixel (i .source .format) ≡ bpp = sym (tables (i .source .format) .bits) ∙ bits in
+      let header : ℕ → Palette → ℕ → Run (RowPack × ColourHeader) = λ d p n. done (Packing.Indexed d, record { bpp = d; compression = 0; masks = replicate 4 0; table = some (p, n) }) in
+      let arm : ℕ → Palette → Run (RowPack × ColourHeader) = λ d p. header d p (writtenPaletteEntries d p (optionsOf i)) in
+      ap (λ b. okOr (given b (paletteIn i)) requiresPalette >>= arm (bitsPerPixel (i .source .format))) (palette indexed)
+      ∙ ap (λ d. arm d (paletteIn i)) bits
+      ∙ ap (header bpp (paletteIn i)) (entries-is i bpp indexed same full)
+
+  plain-head : plainHead (i .source .format) (sourceOf i) (optionsOf i) ≡ done (plainHeadFor (i .source .format) i, packOf (plainPack (i .source .format)))
+  unfolding plainHead counts.paletteEntryCount
+  plain-head = go (i .source .format) refl
+    where
+      indexed : (f : BmpPixelFormat) (bpp : ℕ) → i .source .format ≡ f → formats.isIndexed f ≡ true → bitsPerPixel f ≡ bpp → 1 ≤ counts.paletteEntryCount bpp
+          → plainIndexed (sourceOf i) (optionsOf i) ≡ done (reference.V3Indexed bpp (paletteIn i) (entriesOf i) (reference.rleFor f (optionsOf i)), Packing.Indexed bpp)
+      indexed f bpp e b d full =
+          plain-indexed bpp (ap formats.isIndexed e ∙ b) (ap bitsPerPixel e ∙ d) full
+          ∙ ap (λ g. done (reference.V3Indexed bpp (paletteIn i) (entriesOf i) (reference.rleFor g (optionsOf i)), Packing.Indexed bpp)) e
+
+      go : (f : BmpPixelFormat) → i .source .format ≡ f → plainHead f (sourceOf i) (optionsOf i) ≡ done (plainHeadFor f i, packOf (plainPack f))
+      go source.Rgba e = refl
+      go source.Rgb24 e = refl
+      go source.Bgra e = refl
+      go source.Bgr24 e = refl
+      go source.Rgb555 e = refl
+      go source.Rgb565 e = refl
+      go source.Pal8 e = indexed source.Pal8 8 e refl refl (omega arith)
+      go source.Indexed4 e = indexed source.Indexed4 4 e refl refl (omega arith)
+      go source.Indexed2 e = indexed source.Indexed2 2 e refl refl (omega arith)
+      go source.Indexed1 e = indexed source.Indexed1 1 e refl refl (omega arith)
+
+  colour-head : colourHead (i .source .format) (sourceOf i) (optionsOf i) ≡ done (packOf (plainPack (i .source .format)), colourHeaderFor (i .source .format) i)
+  unfolding colourHead counts.paletteEntryCount
+  colour-head = go (i .source .format) refl
+    where
+      go : (f : BmpPixelFormat) → i .source .format ≡ f → colourHead f (sourceOf i) (optionsOf i) ≡ done (packOf (plainPack f), colourHeaderFor f i)
+      go source.Rgba e = refl
+      go source.Rgb24 e = refl
+      go source.Bgra e = refl
+      go source.Bgr24 e = refl
+      go source.Rgb555 e = refl
+      go source.Rgb565 e = refl
+      go source.Pal8 e = colour-indexed 8 (ap formats.isIndexed e) (ap bitsPerPixel e) (omega arith)
+      go source.Indexed4 e = colour-indexed 4 (ap formats.isIndexed e) (ap bitsPerPixel e) (omega arith)
+      go source.Indexed2 e = colour-indexed 2 (ap formats.isIndexed e) (ap bitsPerPixel e) (omega arith)
+      go source.Indexed1 e = colour-indexed 1 (ap formats.isIndexed e) (ap bitsPerPixel e) (omega arith)
+
+-- the layout of masks of one run each
+layout-is : (depth : ℕ) (masks : List ℕ) → ((k : ℕ) → getD masks k 0 < 2 ^ 32) → ((k : ℕ) → k < 4 → isOneRun (getD masks k 0) ≡ true)
+    → newLayout (masksOf depth masks) ≡ done (layoutIn (layoutOf depth masks))
+unfolding newLayout layoutOf
+layout-is depth masks small runs =
+    rw (shift-len-is (getD masks 0 0) (small 0) (runs 0 (omega arith)), shift-len-is (getD masks 1 0) (small 1) (runs 1 (omega arith)), shift-len-is (getD masks 2 0) (small 2) (runs 2 (omega arith)), shift-len-is (getD masks 3 0) (small 3) (runs 3 (omega arith)))
+
+-- RowPack::masks follows row 11
+pack-masks : (i : Input) → ((k : ℕ) → getD (i .options .bitfields .masks) k 0 < 2 ^ 32) → ((k : ℕ) → k < 4 → isOneRun (getD (i .options .bitfields .masks) k 0) ≡ true)
+    → Follows ((maskSource (i .source .format), MaskSource) ∷ []) (packMasks (i .source .format) (masksOf (i .options .bitfields .bpp) (i .options .bitfields .masks))) (done (packOf (packIn masked i)))
+unfolding packMasks packIn
+pack-masks i small runs = go (i .source .format)
+  where
+    depth : ℕ
+    depth = i .options .bitfields .bpp
+
+    masks : List ℕ
+    masks = i .options .bitfields .masks
+
+    taken : (n : ℕ) (bgr : Bool) → Follows ((false, MaskSource) ∷ []) (newLayout (masksOf depth masks) >>= λ layout. done (Packing.Masks n bgr layout)) (done (Packing.Masks n bgr (layoutIn (layoutOf depth masks))))
+    taken n bgr = rw (layout-is depth masks small runs) (follow.row-passes false MaskSource _ refl)
+
+    other : (k : Run RowPack) → Follows ((true, MaskSource) ∷ []) (fails bitfieldsSource) k
+    other k = follow.row-fails true MaskSource bitfieldsSource k refl
+
+    go : (f : BmpPixelFormat) → Follows ((maskSource f, MaskSource) ∷ []) (packMasks f (masksOf depth masks)) (done (Packing.Masks (formats.bytesPerPixel f) (blueFirst f) (layoutIn (layoutOf depth masks))))
+    go source.Rgba = taken 4 false
+    go source.Rgb24 = taken 3 false
+    go source.Bgra = taken 4 true
+    go source.Bgr24 = taken 3 true
+    go source.Rgb555 = other _
+    go source.Rgb565 = other _
+    go source.Pal8 = other _
+    go source.Indexed4 = other _
+    go source.Indexed2 = other _
+    go source.Indexed1 = other _
+
+-- ---- the plan of a mode
+
+-- what the file of a mode without a stream is written as
+abbrev pub formatIn : Mode → Input → EncodedBmpFormat
+formatIn masked i = cond (hasAlphaMask (i .options .bitfields .masks)) written.AlphaBitfields written.Bitfields
+formatIn calibrated i = plainToken (i .source .format)
+formatIn profiled i = plainToken (i .source .format)
+formatIn plain i = plainToken (i .source .format)
+
+abbrev pub planIn : Mode → Input → Rows → Sizes → Plan
+planIn m i rows sizes = record { head = headFor m (i .source .format) i; rows = rows; width = i .source .width; height = i .source .height; format = formatIn m i; sizes = sizes }
+
+-- the sizes are still to be checked
+abbrev pub sizedIn : Mode → Input → Rows → Run Plan
+sizedIn m i rows = sizesOf (headFor m (i .source .format) i) rows maxFile >>= λ sizes. done (planIn m i rows sizes)
+
+-- so are the rows
+abbrev rowsIn : Mode → Input → Run Rows
+rowsIn m i = newRows (record { stride = i .source .stride; «data» = i .plane }) (packOf (packIn m i)) (i .source .width) (i .source .height) (i .options .«top_down»)
+
+bind-bind : {A B C : Type 0} (m : Run A) (f : A → Run B) (g : B → Run C) → (m >>= f >>= g) ≡ (m >>= λ a. f a >>= g)
+bind-bind (done a) f g = refl
+bind-bind (fails e) f g = refl
+bind-bind panics f g = refl
+
+-- a linked profile before an embedded one
+profile-is : (linked embedded embedding : Bool) (l icc : List ℕ)
+    → profileOf (given linked l) (cond embedding (given embedded icc) none) ≡ given (profileMode linked embedded embedding) (cond linked l icc, cond linked 0x4C494E4B 0x4D424544)
+profile-is true embedded embedding l icc = refl
+profile-is false true true l icc = refl
+profile-is false true false l icc = refl
+profile-is false false true l icc = refl
+profile-is false false false l icc = refl
+
+module _ (i : Input) (small : (k : ℕ) → getD (i .options .bitfields .masks) k 0 < 2 ^ 32) (palette : formats.isIndexed (i .source .format) ≡ true → i .source .«has_palette» ≡ true) where
+  abbrev src : EncodeSource
+  src = sourceOf i
+
+  abbrev options : EncodeOptions
+  options = optionsOf i
+
+  abbrev masks : BmpBitfields
+  masks = masksOf (i .options .bitfields .bpp) (i .options .bitfields .masks)
+
+  colour-rows : colourRows src options ≡ (rowsIn calibrated i >>= λ rows. done (rows, colourHeaderFor (i .source .format) i))
+  unfolding colourRows packIn sourceOf optionsOf
+  colour-rows = rw (colour-head i palette)
+
+  calibrated-plan : (colourRows src options >>= λ rest. assemble src (reference.V4Calibrated (rest .1) (i .options .«calibrated_rgb»)) (rest .0)) ≡ (rowsIn calibrated i >>= sizedIn calibrated i)
+  unfolding assemble sourceOf
+  calibrated-plan =
+      ap (λ r. r >>= λ rest. assemble src (reference.V4Calibrated (rest .1) (i .options .«calibrated_rgb»)) (rest .0)) colour-rows
+      ∙ bind-bind (rowsIn calibrated i) (λ rows. done (rows, colourHeaderFor (i .source .format) i)) (λ rest. assemble src (reference.V4Calibrated (rest .1) (i .options .«calibrated_rgb»)) (rest .0))
+
+  profiled-plan : (colourRows src options >>= λ rest. assemble src (reference.V5Profile (rest .1) (cond (i .source .«has_linked_icc») 0x4C494E4B 0x4D424544) (i .options .«rendering_intent») (cond (i .source .«has_linked_icc») (i .linked) (i .icc))) (rest .0))
+      ≡ (rowsIn profiled i >>= sizedIn profiled i)
+  unfolding assemble sourceOf packIn tailOf
+  profiled-plan =
+      let head : ColourHeader → Head = λ h. reference.V5Profile h (cond (i .source .«has_linked_icc») 0x4C494E4B 0x4D424544) (i .options .«rendering_intent») (cond (i .source .«has_linked_icc») (i .linked) (i .icc)) in
+      ap (λ r. r >>= λ rest. assemble src (head (rest .1)) (rest .0)) colour-rows
+      ∙ bind-bind (rowsIn calibrated i) (λ rows. done (rows, colourHeaderFor (i .source .format) i)) (λ rest. assemble src (head (rest .1)) (rest .0))
+
+  plain-plan : reference.plain src options ≡ (rowsIn plain i >>= sizedIn plain i)
+  unfolding reference.plain assemble sourceOf optionsOf packIn
+  plain-plan = rw (plain-head i palette)
+
+  masked-plan : Follows (bitfieldsRows (i .options .bitfields .bpp) (i .options .bitfields .masks) ++ ((maskSource (i .source .format), MaskSource) ∷ [])) (planBitfields src masks options) (rowsIn masked i >>= sizedIn masked i)
+  unfolding planBitfields assemble sourceOf optionsOf
+  masked-plan =
+      let d = i .options .bitfields .bpp in
+      let m = i .options .bitfields .masks in
+      let format : Plan → Run Plan = λ plan. done (record { head = plan .head; rows = plan .rows; width = plan .width; height = plan .height; format = formatIn masked i; sizes = plan .sizes }) in
+      let rest : RowPack → Run Plan = λ pack. newRows (src .plane) pack (src .width) (src .height) (options .«top_down») >>= λ rows. assemble src (reference.V3Masks masks) rows >>= format in
+      follow.then (bitfieldsRows d m) ((maskSource (i .source .format), MaskSource) ∷ []) _ (packMasks (i .source .format) masks >>= rest) _
+      (follow.on (bitfieldsRows d m) (validate masks) (done tt) (λ _. packMasks (i .source .format) masks >>= rest) (validated d m small))
+      (λ p. let a = masks-accepted d m p in
+      follow.to ((maskSource (i .source .format), MaskSource) ∷ []) _ _ _
+      (follow.on ((maskSource (i .source .format), MaskSource) ∷ []) (packMasks (i .source .format) masks) (done (packOf (packIn masked i))) rest (pack-masks i small (a .runs)))
+      (last (rowsIn masked i)))
+    where
+      last : (r : Run Rows)
+          → (r >>= λ rows. assemble src (reference.V3Masks masks) rows >>= λ plan. done (record { head = plan .head; rows = plan .rows; width = plan .width; height = plan .height; format = formatIn masked i; sizes = plan .sizes }))
+          ≡ (r >>= sizedIn masked i)
+      last (done rows) = bind-bind (sizesOf (reference.V3Masks masks) rows maxFile) _ _
+      last (fails e) = refl
+      last panics = refl
+
+  -- by the options given
+  planned : (a b c : Bool)
+      → Follows (cond a (bitfieldsRows (i .options .bitfields .bpp) (i .options .bitfields .masks) ++ ((maskSource (i .source .format), MaskSource) ∷ [])) [])
+      (planFor src options (given a masks) (given b (i .options .«calibrated_rgb»)) (given c (cond (i .source .«has_linked_icc») (i .linked) (i .icc), cond (i .source .«has_linked_icc») 0x4C494E4B 0x4D424544)))
+      (rowsIn (cond a masked (cond b calibrated (cond c profiled plain))) i >>= sizedIn (cond a masked (cond b calibrated (cond c profiled plain))) i)
+  unfolding planFor optionsOf
+  planned true b c = masked-plan
+  planned false true c = follow.nothing _ _ calibrated-plan
+  planned false false true = follow.nothing _ _ profiled-plan
+  planned false false false = follow.nothing _ _ plain-plan
+
+-- ---- the packs' sizes
+
+pub record PackSizes (m : Mode) (i : Input) : Type 0 where
+  pub bytes : sourceBytes (packOf (packIn m i)) ≡ formats.bytesPerPixel (i .source .format)
+  pub few : sourceBytes (packOf (packIn m i)) ≤ 4
+  pub bits : packBits (packOf (packIn m i)) ≤ 32
+  pub depth : packBits (packOf (packIn m i)) ≡ depthIn m i
+
+record PlainSizes (f : BmpPixelFormat) : Type 0 where
+  bytes : sourceBytes (packOf (plainPack f)) ≡ formats.bytesPerPixel f
+  few : sourceBytes (packOf (plainPack f)) ≤ 4
+  bits : packBits (packOf (plainPack f)) ≤ 32
+  depth : packBits (packOf (plainPack f)) ≡ formats.bitsPerPixel f
+  sample : formats.bytesPerPixel f ≤ 4
+
+plain-sizes : (f : BmpPixelFormat) → PlainSizes f
+plain-sizes source.Rgba = record { bytes = refl; few = omega arith; bits = omega arith; depth = refl; sample = omega arith }
+plain-sizes source.Rgb24 = record { bytes = refl; few = omega arith; bits = omega arith; depth = refl; sample = omega arith }
+plain-sizes source.Bgra = record { bytes = refl; few = omega arith; bits = omega arith; depth = refl; sample = omega arith }
+plain-sizes source.Bgr24 = record { bytes = refl; few = omega arith; bits = omega arith; depth = refl; sample = omega arith }
+plain-sizes source.Rgb555 = record { bytes = refl; few = omega arith; bits = omega arith; depth = refl; sample = omega arith }
+plain-sizes source.Rgb565 = record { bytes = refl; few = omega arith; bits = omega arith; depth = refl; sample = omega arith }
+plain-sizes source.Pal8 = record { bytes = refl; few = omega arith; bits = omega arith; depth = refl; sample = omega arith }
+plain-sizes source.Indexed4 = record { bytes = refl; few = omega arith; bits = omega arith; depth = refl; sample = omega arith }
+plain-sizes source.Indexed2 = record { bytes = refl; few = omega arith; bits = omega arith; depth = refl; sample = omega arith }
+plain-sizes source.Indexed1 = record { bytes = refl; few = omega arith; bits = omega arith; depth = refl; sample = omega arith }
+
+pub pack-sizes : (m : Mode) (i : Input) → (m ≡ masked → (i .options .bitfields .bpp ≡ 16) ⊎ (i .options .bitfields .bpp ≡ 32)) → PackSizes m i
+unfolding packIn layoutOf
+pack-sizes masked i depth = record { bytes = refl; few = plain-sizes (i .source .format) .sample; bits = go (depth refl); depth = refl }
+  where
+    go : (i .options .bitfields .bpp ≡ 16) ⊎ (i .options .bitfields .bpp ≡ 32) → i .options .bitfields .bpp ≤ 32
+    go (inl e) = omega (arith, e)
+    go (inr e) = omega (arith, e)
+pack-sizes calibrated i depth = let s = plain-sizes (i .source .format) in record { bytes = s .bytes; few = s .few; bits = s .bits; depth = s .depth }
+pack-sizes profiled i depth = let s = plain-sizes (i .source .format) in record { bytes = s .bytes; few = s .few; bits = s .bits; depth = s .depth }
+pack-sizes plain i depth = let s = plain-sizes (i .source .format) in record { bytes = s .bytes; few = s .few; bits = s .bits; depth = s .depth }
+
+-- ---- all rows
+
+given-some : {A : Type 0} (b : Bool) (a : A) → isSome (given b a) ≡ b
+given-some true a = refl
+given-some false a = refl
+
+-- what `requested` counts
+requested-is : (i : Input)
+    → (fromBool (isSome (optionsOf i .bitfields)) + fromBool (isSome (optionsOf i .«calibrated_rgb»))
+    + fromBool (isSome (optionsOf i .«linked_icc») || isSome (cond (i .options .«embed_icc») (given (i .source .«has_icc») (i .icc)) none)))
+    ≡ one (i .options .«has_bitfields») + one (i .options .«has_calibrated_rgb») + one (profileMode (i .source .«has_linked_icc») (i .source .«has_icc») (i .options .«embed_icc»))
+unfolding optionsOf
+requested-is i =
+    go (i .options .«has_bitfields») (i .options .«has_calibrated_rgb») (i .source .«has_linked_icc») (i .source .«has_icc») (i .options .«embed_icc») (masksOf (i .options .bitfields .bpp) (i .options .bitfields .masks))
+  where
+    v5 : (linked embedded embedding : Bool) → (isSome (given linked (i .linked)) || isSome (cond embedding (given embedded (i .icc)) none)) ≡ profileMode linked embedded embedding
+    v5 true embedded embedding = refl
+    v5 false true true = refl
+    v5 false true false = refl
+    v5 false false true = refl
+    v5 false false false = refl
+
+    bool : (b : Bool) → fromBool b ≡ one b
+    bool true = refl
+    bool false = refl
+
+    go : (a b l e o : Bool) (m : BmpBitfields)
+        → (fromBool (isSome (given a m)) + fromBool (isSome (given b (i .options .«calibrated_rgb»))) + fromBool (isSome (given l (i .linked)) || isSome (cond o (given e (i .icc)) none)))
+        ≡ one a + one b + one (profileMode l e o)
+    go a b l e o m = rw (given-some a m, given-some b (i .options .«calibrated_rgb»), v5 l e o, bool a, bool b, bool (profileMode l e o))
+
+module _ (i : Input) (ok : Typed i) (domain : Domain i) where
+  abbrev dims : List (Bool × Refusal)
+  dims = dimensionRows (i .source .width) (i .source .height)
+
+  abbrev pals : List (Bool × Refusal)
+  pals = paletteRows (formats.isIndexed (i .source .format)) (i .source .«has_palette») (length (i .palette))
+
+  abbrev modes : List (Bool × Refusal)
+  modes = modeRows (i .options .«has_bitfields») (i .options .«has_calibrated_rgb») (profileMode (i .source .«has_linked_icc») (i .source .«has_icc») (i .options .«embed_icc»))
+
+  abbrev planes : List (Bool × Refusal)
+  planes = planeRows (i .source .width) (i .source .height) (i .source .stride) (formats.bytesPerPixel (i .source .format)) (length (i .plane))
+
+  -- what stops among the first rows stops the plan
+  first-two : (why : Refusal) → firstOf (dims ++ pals) ≡ Refused why → firstNumber (planRows maxFile i) ≡ numberOf why
+  unfolding planRows checkRows
+  first-two why e =
+      ap checkNumber
+      (first-stop (dims ++ pals ++ modes ++ givenMasksRows i ++ planes) ((fileTooLarge maxFile i, FileTooLarge) ∷ []) why
+      (first-stop (dims ++ pals ++ modes ++ givenMasksRows i) planes why (first-stop (dims ++ pals ++ modes) (givenMasksRows i) why (first-stop (dims ++ pals) modes why e))))
+
+  -- 1, and 2 that does not apply
+  dims-follow : (k : Run Plan) → Follows dims (failIf (rows.zeroDimension (i .source .width) (i .source .height)) zeroDimension >> k) k
+  unfolding dimensionRows
+  dims-follow k =
+      let zero = rows.zeroDimension (i .source .width) (i .source .height) in
+      let large = dimensionTooLarge (i .source .width) (i .source .height) in
+      follow.then ((zero, ZeroDimension) ∷ []) ((large, DimensionTooLarge) ∷ []) _ k k (follow.row-fails zero ZeroDimension zeroDimension k refl) (λ p. go large refl (follow.row-passed zero ZeroDimension p))
+    where
+      go : (b : Bool) → dimensionTooLarge (i .source .width) (i .source .height) ≡ b → rows.zeroDimension (i .source .width) (i .source .height) ≡ false → Follows ((b, DimensionTooLarge) ∷ []) k k
+      go false e z = follow.row-passes false DimensionTooLarge k refl
+      go true e z = absurd (domain .not-2 (first-two DimensionTooLarge (first-stop dims pals DimensionTooLarge (rw (z, e)))))
+
+  -- 3, and 4 that does not apply
+  pals-follow : firstOf dims ≡ Passed → (k : Run Plan) → Follows pals (failIf (isIndexed (i .source .format) && not (isSome (sourceOf i .palette))) requiresPalette >> k) k
+  unfolding paletteRows sourceOf
+  pals-follow passed k =
+      let missing = paletteMissing (formats.isIndexed (i .source .format)) (i .source .«has_palette») in
+      let ragged = paletteNotQuads (formats.isIndexed (i .source .format)) (length (i .palette)) in
+      rw (tables (i .source .format) .indexed, given-some (i .source .«has_palette») (paletteIn i))
+      (follow.then ((missing, PaletteMissing) ∷ []) ((ragged, PaletteNotQuads) ∷ []) _ k k (follow.row-fails missing PaletteMissing requiresPalette k refl) (λ p. go ragged refl (follow.row-passed missing PaletteMissing p)))
+    where
+      go : (b : Bool) → paletteNotQuads (formats.isIndexed (i .source .format)) (length (i .palette)) ≡ b → paletteMissing (formats.isIndexed (i .source .format)) (i .source .«has_palette») ≡ false → Follows ((b, PaletteNotQuads) ∷ []) k k
+      go false e z = follow.row-passes false PaletteNotQuads k refl
+      go true e z = absurd (domain .not-4 (first-two PaletteNotQuads (first-pass dims pals passed ∙ rw (z, e))))
+
+  -- what is left after 5
+  abbrev chosen : Run Plan
+  chosen =
+      planFor (sourceOf i) (optionsOf i) (optionsOf i .bitfields) (optionsOf i .«calibrated_rgb») (profileOf (optionsOf i .«linked_icc») (cond (optionsOf i .«embed_icc») (sourceOf i .icc) none))
+
+  modes-follow : (k : Run Plan)
+      → Follows modes
+      (failIf (ltb 1 (fromBool (isSome (optionsOf i .bitfields)) + fromBool (isSome (optionsOf i .«calibrated_rgb»)) + fromBool (isSome (optionsOf i .«linked_icc») || isSome (cond (i .options .«embed_icc») (given (i .source .«has_icc») (i .icc)) none)))) mutuallyExclusive >> k) k
+  unfolding modeRows
+  modes-follow k = rw (requested-is i) (follow.row-fails _ SeveralModes mutuallyExclusive k refl)
+
+  masks-follow : (formats.isIndexed (i .source .format) ≡ true → i .source .«has_palette» ≡ true) → Follows (givenMasksRows i) chosen (rowsIn (modeOf i) i >>= sizedIn (modeOf i) i)
+  unfolding givenMasksRows modeOf sourceOf optionsOf
+  masks-follow palette =
+      rw (profile-is (i .source .«has_linked_icc») (i .source .«has_icc») (i .options .«embed_icc») (i .linked) (i .icc))
+      (planned i (ok .masks) palette (i .options .«has_bitfields») (i .options .«has_calibrated_rgb») (profileMode (i .source .«has_linked_icc») (i .source .«has_icc») (i .options .«embed_icc»)))
+
+  -- 12 and 13
+  planes-follow : sourceBytes (packOf (packIn (modeOf i) i)) ≡ formats.bytesPerPixel (i .source .format) → sourceBytes (packOf (packIn (modeOf i) i)) ≤ 4 → packBits (packOf (packIn (modeOf i) i)) ≤ 32
+      → Follows planes (rowsIn (modeOf i) i >>= sizedIn (modeOf i) i) (sizedIn (modeOf i) i (rowsFor (packOf (packIn (modeOf i) i)) i))
+  planes-follow bytes few bits =
+      let pack = packOf (packIn (modeOf i) i) in
+      let p : planeRows (i .source .width) (i .source .height) (i .source .stride) (sourceBytes pack) (length (i .plane)) ≡ planes = ap (λ n. planeRows (i .source .width) (i .source .height) (i .source .stride) n (length (i .plane))) bytes in
+      follow.on planes (rowsIn (modeOf i) i) (done (rowsFor pack i)) (sizedIn (modeOf i) i) (subst (λ r. Follows r (rowsIn (modeOf i) i) (done (rowsFor pack i))) p (new-rows i pack (ok .width) (domain .product) few bits))
+
+  -- an indexed source that row 3 lets through has its palette
+  palette-of : firstOf pals ≡ Passed → formats.isIndexed (i .source .format) ≡ true → i .source .«has_palette» ≡ true
+  unfolding paletteRows
+  palette-of p e = go (i .source .«has_palette») refl
+    where
+      go : (b : Bool) → i .source .«has_palette» ≡ b → b ≡ true
+      go true q = refl
+      go false q =
+          let missing : paletteMissing (formats.isIndexed (i .source .format)) (i .source .«has_palette») ≡ false = row-parts (paletteMissing (formats.isIndexed (i .source .format)) (i .source .«has_palette»)) PaletteMissing _ p .0 in
+          let z : true ≡ false = rw (e, q) at missing in
+          absurd (false≢true (sym z))
+
+  -- Plan::new up to its sizes
+  pub new-plan : Follows (checkRows i) (newPlan (sourceOf i) (optionsOf i)) (sizedIn (modeOf i) i (rowsFor (packOf (packIn (modeOf i) i)) i))
+  unfolding checkRows newPlan sourceOf optionsOf
+  new-plan =
+      let three : Run Plan = failIf (ltb 1 (fromBool (isSome (optionsOf i .bitfields)) + fromBool (isSome (optionsOf i .«calibrated_rgb»)) + fromBool (isSome (optionsOf i .«linked_icc») || isSome (cond (i .options .«embed_icc») (given (i .source .«has_icc») (i .icc)) none)))) mutuallyExclusive >> chosen in
+      let two : Run Plan = failIf (isIndexed (i .source .format) && not (isSome (sourceOf i .palette))) requiresPalette >> three in
+      follow.then (dims ++ pals ++ modes ++ givenMasksRows i) planes _ _ _
+      (follow.then (dims ++ pals ++ modes) (givenMasksRows i) _ chosen _
+      (follow.then (dims ++ pals) modes _ three _ (follow.then dims pals _ two _ (dims-follow two) (λ p. pals-follow p three)) (λ _. modes-follow chosen))
+      (λ p. masks-follow (palette-of (first-parts dims pals (first-parts (dims ++ pals) modes p .0) .1))))
+      (λ p. let sizes = pack-sizes (modeOf i) i (λ e. given-masks i (first-parts (dims ++ pals ++ modes) (givenMasksRows i) p .1) (masks-given i e) .0 .depths) in
+      planes-follow (sizes .bytes) (sizes .few) (sizes .bits))

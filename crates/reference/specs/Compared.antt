@@ -1,0 +1,148 @@
+-- What the original is handed for a call, and which of its answers is which of document 01's.
+use Prim.Native.Nat.{ℕ, _+_, _*_, _/_, _^_, _<_}
+use mathlib.Core.Bool.{Bool, cond}
+use mathlib.Core.Path.{_≡_}
+use mathlib.Core.List.{List, [], _∷_, _++_}
+use lib.ListN.{length, getD, take, drop}
+use Rattle.leaves.specs.declared.error.Check.{Check}
+use Rattle.leaves.specs.declared.error.Check.the-variants as check
+use Rattle.leaves.specs.declared.encoder.EncodedBmpFormat.{EncodedBmpFormat}
+use Rattle.leaves.specs.Lists.{tab}
+use Rattle.leaves.specs.Refusals.{numberOf, firstOf, firstNumber}
+use Rattle.format.specs.File as document
+use Rattle.format.specs.Input.{Input}
+use Rattle.format.specs.Refusals.{planRows, streamOverBudget}
+use Rattle.leaves.specs.declared.error.Refusal.{Refusal}
+use Rattle.leaves.specs.declared.error.Refusal.the-variants.{StreamOverBudget}
+use Rattle.leaves.specs.Put.{put}
+use Rattle.planner.specs.declared.encoder.Encoded.{Encoded}
+use Rattle.planner.specs.declared.plan.SizeBound.{SizeBound}
+use Rattle.planner.specs.Answers.{encodedNumber, encodedBytes, encodedFormat, boundNumber, boundBytes}
+use Rattle.reference.specs.Rust.{Error, zeroDimension, requiresPalette, mutuallyExclusive, bitfieldsBpp, maskExceeds, maskNotContiguous, maskOverlaps, noColourMask, bitfieldsSource, planeTruncated, strideBelowRow, pixelArrayOverflows, fileOverflows, overLimit, notAddressable, rleOverLimit, Run, done, fails, panics, _>>=_, Option, some, none}
+use Rattle.reference.specs.Types.{BmpBitfields, EncodeSource, EncodeOptions}
+use Rattle.reference.specs.Plan.{newPlan, Appended, wrote, refused, writeInto, encodeSource}
+
+-- ---- what it is handed
+
+abbrev pub given : {A : Type 0} → Bool → A → Option A
+given flag a = cond flag (some a) none
+
+-- the entries of a palette of four bytes each
+unfoldable pub entriesIn : List ℕ → List (List ℕ)
+entriesIn palette = tab (λ k. take 4 (drop (k * 4) palette)) (length palette / 4)
+
+abbrev pub masksOf : ℕ → List ℕ → BmpBitfields
+masksOf depth masks = record { bpp = depth; r = getD masks 0 0; g = getD masks 1 0; b = getD masks 2 0; a = getD masks 3 0 }
+
+unfoldable pub sourceOf : Input → EncodeSource
+sourceOf i =
+    record {
+      plane = record { stride = i .source .stride; «data» = i .plane };
+      format = i .source .format;
+      palette = given (i .source .«has_palette») (record { entries = entriesIn (i .palette) });
+      icc = given (i .source .«has_icc») (i .icc);
+      width = i .source .width;
+      height = i .source .height;
+    }
+
+unfoldable pub optionsOf : Input → EncodeOptions
+optionsOf i =
+    record {
+      «top_down» = i .options .«top_down»;
+      «minimal_palette» = i .options .«minimal_palette»;
+      rle = i .options .rle;
+      bitfields = given (i .options .«has_bitfields») (masksOf (i .options .bitfields .bpp) (i .options .bitfields .masks));
+      «embed_icc» = i .options .«embed_icc»;
+      «linked_icc» = given (i .source .«has_linked_icc») (i .linked);
+      «rendering_intent» = i .options .«rendering_intent»;
+      «calibrated_rgb» = given (i .options .«has_calibrated_rgb») (i .options .«calibrated_rgb»);
+    }
+
+-- ---- what it answers
+
+-- an Err's number in document 01's table: "The Rust's 64-bit overflow refusal is 14 here. Its "target can address" refusal cannot occur", which is 0
+abbrev pub errorNumber : Error → ℕ
+errorNumber zeroDimension = 1
+errorNumber requiresPalette = 3
+errorNumber mutuallyExclusive = 5
+errorNumber bitfieldsBpp = 6
+errorNumber maskExceeds = 7
+errorNumber maskNotContiguous = 8
+errorNumber maskOverlaps = 9
+errorNumber noColourMask = 10
+errorNumber bitfieldsSource = 11
+errorNumber planeTruncated = 12
+errorNumber strideBelowRow = 13
+errorNumber pixelArrayOverflows = 14
+errorNumber fileOverflows = 14
+errorNumber overLimit = 14
+errorNumber notAddressable = 0
+errorNumber rleOverLimit = 16
+
+pub data Outcome (A : Type 0) : Type 0 where
+  gives : A → Outcome A
+  refuses : ℕ → Outcome A
+  panicked : Outcome A
+
+abbrev pub outcome : {A : Type 0} → Run A → Outcome A
+outcome (done a) = gives a
+outcome (fails e) = refuses (errorNumber e)
+outcome panics = panicked
+
+-- the document's answer: the first row of its table that applies, or else this
+abbrev pub answer : {A : Type 0} → Check → A → Outcome A
+answer check.Passed a = gives a
+answer (check.Refused why) a = refuses (numberOf why)
+
+-- ---- the comparison
+
+-- "Domain of the comparison: 2, 4 and 15 don't apply and stride × height is below 2^64"; 15 is a lent buffer's, which the original has not
+pub record Domain (i : Input) : Type 0 where
+  pub not-2 : firstNumber (planRows document.maxFile i) ≡ 2 → ⊥
+  pub not-4 : firstNumber (planRows document.maxFile i) ≡ 4 → ⊥
+  pub product : i .source .stride * i .source .height < 2 ^ 64
+
+-- what the arguments' types hold
+pub record Typed (i : Input) : Type 0 where
+  pub width : i .source .width < 2 ^ 32
+  pub height : i .source .height < 2 ^ 32
+  pub plane-bytes : (k : ℕ) → getD (i .plane) k 0 < 256
+  pub masks : (k : ℕ) → getD (i .options .bitfields .masks) k 0 < 2 ^ 32
+  pub nine-endpoints : length (i .options .«calibrated_rgb» .endpoints) ≡ 9
+  pub three-gammas : length (i .options .«calibrated_rgb» .gamma) ≡ 3
+
+-- `encoded_size_bound`, of what `Plan::new` makes
+abbrev pub sizeBound : EncodeSource → EncodeOptions → Run ℕ
+sizeBound src options = newPlan src options >>= λ plan. done (plan .sizes .bound)
+
+-- `encode_into`, of what `Plan::new` makes: the file behind what stands in `out`
+abbrev pub encodeBehind : EncodeSource → EncodeOptions → List ℕ → Run Appended
+encodeBehind src options out = newPlan src options >>= λ plan. writeInto plan out
+
+-- the rows of the writing call without 15
+unfoldable pub fileRows : Input → List (Bool × Refusal)
+fileRows i = planRows document.maxFile i ++ ((streamOverBudget document.maxFile i, StreamOverBudget) ∷ [])
+
+-- Bound, file, format and refusal are the document's, and nothing panics. Where `out` has room for the bound in a Vec, the file stands behind what `out` held; the one Err that `write_into` returns leaves `out` as it was.
+pub record SameAnswers (i : Input) : Type 0 where
+  pub bound : outcome (sizeBound (sourceOf i) (optionsOf i)) ≡ answer (firstOf (planRows document.maxFile i)) (document.boundOf document.maxFile i)
+  pub file : outcome (encodeSource (sourceOf i) (optionsOf i)) ≡ answer (firstOf (fileRows i)) (document.fileOf document.maxFile i, document.formatOf document.maxFile (document.modeOf i) i)
+  pub behind : (out : List ℕ) → length out + document.boundOf document.maxFile i < 2 ^ 63
+      → outcome (encodeBehind (sourceOf i) (optionsOf i) out)
+      ≡ answer (firstOf (planRows document.maxFile i))
+      (cond (streamOverBudget document.maxFile i) (refused rleOverLimit out) (wrote (document.formatOf document.maxFile (document.modeOf i) i) (out ++ document.fileOf document.maxFile i)))
+
+-- ---- the port's calls
+
+-- the writing call answers as the original, and the later buffer holds its file
+abbrev pub WritesAs : Outcome (List ℕ × EncodedBmpFormat) → ℕ → List ℕ → List ℕ → Encoded → Type 0
+WritesAs (gives (file, format)) offset was later answer =
+    (encodedNumber answer ≡ 0) × (encodedFormat answer ≡ format ∷ []) × (encodedBytes answer ≡ length file) × (later ≡ put was offset file)
+WritesAs (refuses n) offset was later answer = (encodedNumber answer ≡ n) × (later ≡ was)
+WritesAs panicked offset was later answer = ⊥
+
+-- the size query answers as the original
+abbrev pub BoundsAs : Outcome ℕ → SizeBound → Type 0
+BoundsAs (gives bytes) answer = (boundNumber answer ≡ 0) × (boundBytes answer ≡ bytes)
+BoundsAs (refuses n) answer = boundNumber answer ≡ n
+BoundsAs panicked answer = ⊥
