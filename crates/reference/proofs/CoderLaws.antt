@@ -281,7 +281,7 @@ module _ (row : List ℕ) (short : length row < 2 ^ 32) where
         nibble-if (ltb (m * 2 + 1) n) (i + m * 2 + 1) (part (m * 2 + 1))
         (λ e. let k : m * 2 + 1 < n = ltb-true (m * 2 + 1) n e in (omega arith, sym (rw (add-assoc i (m * 2) 1) (part-at xs i n (m * 2 + 1) k))))
         (λ e. sym (part-past xs i n (m * 2 + 1) (ltb-false (m * 2 + 1) n e))) in
-        rw (q, add-is usize i (m * 2) (omega arith), nibble-is (i + m * 2) (omega arith), add-is usize (i + m * 2) 1 (omega arith), lo, ← part-at xs i n (m * 2) (omega arith), nibbles-are part m (small (m * 2)) (small (m * 2 + 1)))
+        rw (q, add-is usize i (m * 2) (omega arith), nibble-is (i + m * 2) (omega arith), add-is usize (m * 2) 1 (omega arith), add-is usize (i + m * 2) 1 (omega arith), lo, ← part-at xs i n (m * 2) (omega arith), nibbles-are part m (small (m * 2)) (small (m * 2 + 1)))
 
     pairs-are : (out : List ℕ) → for ((n + 1) / 2) (pairTurn row i n) out ≡ done (out ++ tab (packedByte 4 part) ((n + 1) / 2))
     unfolding tab

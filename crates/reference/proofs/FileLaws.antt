@@ -150,6 +150,10 @@ plain-format calibrated i e = tables (i .source .format) .token
 plain-format profiled i e = tables (i .source .format) .token
 plain-format plain i e = rw e (tables (i .source .format) .token)
 
+head-length : (i : Input) (pixelBytes size : ℕ) → length (headIn (modeOf i) i pixelBytes size) ≡ headBytes i
+unfolding headOf imageSize headBytes
+head-length i pixelBytes size = fields.length-head i (plainCompression (modeOf i) i) pixelBytes size
+
 -- its size is the plain size
 plain-file : (i : Input) → Checked i → streamUsed maxFile i ≡ false → fileOf maxFile i ≡ headIn (modeOf i) i (rawBytes i) (plainSize i) ++ storedRowsOf i ++ tailOf (modeOf i) i
 unfolding fileOf headOf imageSize fileSize pixels plainSize headBytes
@@ -215,20 +219,22 @@ module _ (i : Input) (ok : Typed i) (k : Checked i) (product : i .source .stride
       sixteen source.Indexed1 b = absurd (false≢true b)
 
   -- its rows behind that head
-  rows-behind : streamUsed maxFile i ≡ false → (out : List ℕ) → writePixels planned (out ++ headIn (modeOf i) i (rawBytes i) (plainSize i)) ≡ done (wrote (formatOf maxFile (modeOf i) i) (out ++ fileOf maxFile i))
-  rows-behind e out =
+  rows-behind : streamUsed maxFile i ≡ false → plainSize i ≤ maxFile → (out : List ℕ) → length out < 2 ^ 63 → writePixels planned (out ++ headIn (modeOf i) i (rawBytes i) (plainSize i)) ≡ done (wrote (formatOf maxFile (modeOf i) i) (out ++ fileOf maxFile i))
+  unfolding plainSize
+  rows-behind e small out room =
       let head = headIn (modeOf i) i (rawBytes i) (plainSize i) in
-      pixels-written i ok k (sizesFor i) product refl (out ++ head)
+      let long : length (out ++ head) ≡ length out + headBytes i = length-append out head ∙ ap (λ n. length out + n) (head-length i (rawBytes i) (plainSize i)) in
+      pixels-written i ok k (sizesFor i) product refl (out ++ head) (omega (arith, long, small, room))
       ∙ ap (λ f. done (wrote f (out ++ head ++ storedRowsOf i ++ tailOf (modeOf i) i))) (plain-format (modeOf i) i e)
       ∙ ap (λ x. done (wrote (formatOf maxFile (modeOf i) i) x))
       (ap (λ x. x ++ tailOf (modeOf i) i) (append-assoc out head (storedRowsOf i)) ∙ append-assoc out (head ++ storedRowsOf i) (tailOf (modeOf i) i) ∙ ap (λ x. out ++ x) (sym (plain-file i k e)))
 
-  plain-write : streamUsed maxFile i ≡ false → plainSize i ≤ maxFile → (out : List ℕ) → writeProbed planned out none ≡ done (wrote (formatOf maxFile (modeOf i) i) (out ++ fileOf maxFile i))
+  plain-write : streamUsed maxFile i ≡ false → plainSize i ≤ maxFile → (out : List ℕ) → length out < 2 ^ 63 → writeProbed planned out none ≡ done (wrote (formatOf maxFile (modeOf i) i) (out ++ fileOf maxFile i))
   unfolding writeProbed
-  plain-write e small out =
+  plain-write e small out room =
       let file : plainSize i % 4294967296 ≡ plainSize i = mod-eq-of-lt (omega (arith, small)) in
       let raw : rawBytes i % 4294967296 ≡ rawBytes i = mod-eq-of-lt (omega (arith, raw-le i small)) in
-      rw (file, raw, head-written i ok k (sizesFor i) out (plainSize i) (rawBytes i) (head-fits small)) (rows-behind e out)
+      rw (file, raw, head-written i ok k (sizesFor i) out (plainSize i) (rawBytes i) (head-fits small)) (rows-behind e small out room)
 
   -- ---- with a probe
 
@@ -316,11 +322,11 @@ module _ (i : Input) (ok : Typed i) (k : Checked i) (product : i .source .stride
     abbrev under : Bool
     under = ltb (length (streamOf i)) (budget maxFile i)
 
-    probed-write : (out : List ℕ)
+    probed-write : (out : List ℕ) → length out < 2 ^ 63
         → (writeHead planned out (cond (leb (plainSize i) maxFile) (plainSize i % 4294967296) 0) 0 >>= λ headed. rleInto (planned .rows) (c .rle) (budget maxFile i % 18446744073709551616) headed >>= after out (length out))
         ≡ done (cond (ltb maxFile (plainSize i) && not under) (refused rleOverLimit out) (wrote (formatOf maxFile (modeOf i) i) (out ++ fileOf maxFile i)))
     unfolding streamUsed formatOf budget
-    probed-write out =
+    probed-write out room =
         let old : ℕ = cond (leb (plainSize i) maxFile) (plainSize i % 4294967296) 0 in
         let b : budget maxFile i ≤ 4294967296 = omega (arith, min-le-right (rawBytes i) (4294967296 - headBytes i)) in
         let m : budget maxFile i % 18446744073709551616 ≡ budget maxFile i = mod-eq-of-lt (omega (arith, b)) in
@@ -357,7 +363,7 @@ module _ (i : Input) (ok : Typed i) (k : Checked i) (product : i .source .stride
                 let m : plainSize i % 4294967296 ≡ plainSize i = mod-eq-of-lt (omega (arith, small)) in
                 let fits : ltb maxFile (plainSize i) ≡ false = le-ltb maxFile (plainSize i) small in
                 rw (m, fits)
-                (ap (λ x. writePixels planned (out ++ x)) (sym (zero-head i mode (c .not-565) (rawBytes i) (plainSize i))) ∙ rows-behind unused out)
+                (ap (λ x. writePixels planned (out ++ x)) (sym (zero-head i mode (c .not-565) (rawBytes i) (plainSize i))) ∙ rows-behind unused small out room)
             fall false h =
                 let large : ltb maxFile (plainSize i) ≡ true = lt-ltb maxFile (plainSize i) (leb-false (plainSize i) maxFile h) in
                 rw (large, take-append-seam out (first 0))
@@ -382,12 +388,12 @@ module _ (i : Input) (ok : Typed i) (k : Checked i) (product : i .source .stride
           let fits : ltb maxFile (plainSize i) ≡ false = and-false (not (rlePlanned i)) (ltb maxFile (plainSize i)) large (ap not e) in
           let over : streamOverBudget maxFile i ≡ false = ap (λ b. b && ltb maxFile (plainSize i) && not (ltb (length (streamOf i)) (budget maxFile i))) e in
           ap (writeProbed planned out) (none-probed (modeOf i) i)
-          ∙ plain-write (unused e) (ltb-false maxFile (plainSize i) fits) out
+          ∙ plain-write (unused e) (ltb-false maxFile (plainSize i) fits) out (omega (arith, room))
           ∙ ap (λ b. done (cond b (refused rleOverLimit out) (wrote (formatOf maxFile (modeOf i) i) (out ++ fileOf maxFile i)))) (sym over)
       go true e =
           let c = coded-of i e in
           let over : streamOverBudget maxFile i ≡ (ltb maxFile (plainSize i) && not (ltb (length (streamOf i)) (budget maxFile i))) =
           ap (λ b. b && ltb maxFile (plainSize i) && not (ltb (length (streamOf i)) (budget maxFile i))) e in
           ap (writeProbed planned out) (c .probes (budget maxFile i))
-          ∙ probed-write e c out
+          ∙ probed-write e c out (omega (arith, room))
           ∙ ap (λ b. done (cond b (refused rleOverLimit out) (wrote (formatOf maxFile (modeOf i) i) (out ++ fileOf maxFile i)))) (sym over)

@@ -19,7 +19,7 @@ use Rattle.leaves.proofs.ListLaws.{length-tab, getD-tab}
 use Rattle.rows.proofs.PackLaws.{Depth, depth, packed-8, pow-pow}
 use Rattle.reference.specs.Rust.{Run, done, _>>=_, u8, sub, shl, store, for}
 use Rattle.reference.specs.Packing.{orAt, index4, index2, index1, packIndices}
-use Rattle.reference.proofs.RunLaws.{sub-is, shl-is, at-is, store-is, for-is}
+use Rattle.reference.proofs.RunLaws.{sub-is, mul-is, shl-is, at-is, store-is, for-is}
 use Rattle.reference.proofs.Slices.{copied-in}
 
 -- ---- digits of which the last are 0
@@ -205,7 +205,7 @@ module _ (src dst : List ℕ) (x : ℕ) (h : x < length src) where
       let s : 6 - 2 * (x % 4) ≡ (4 - suc (x % 4)) * 2 = omega arith in
       let v : getD src x 0 % 4 * 2 ^ ((4 - suc (x % 4)) * 2) % 2 ^ 8 ≡ getD src x 0 % 4 * 2 ^ ((4 - suc (x % 4)) * 2) =
       shl-exact 2 ((4 - suc (x % 4)) * 2) 8 (mod-lt (getD src x 0) (omega arith)) (omega arith) in
-      rw (at-is src x h, low, sub-is 6 (2 * (x % 4)) (omega arith), s, shl-is 8 (getD src x 0 % 4) ((4 - suc (x % 4)) * 2) (omega arith), v)
+      rw (at-is src x h, low, mul-is 64 2 (x % 4) (omega arith), sub-is 6 (2 * (x % 4)) (omega arith), s, shl-is 8 (getD src x 0 % 4) ((4 - suc (x % 4)) * 2) (omega arith), v)
       (or-at-is dst (x / 4) (getD src x 0 % 4 * 2 ^ ((4 - suc (x % 4)) * 2)) l)
 
   -- a bit that is 0 is left out

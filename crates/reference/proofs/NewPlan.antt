@@ -29,7 +29,7 @@ use Rattle.leaves.specs.Refusals as rows
 use Rattle.format.proofs.Acceptance.{masks-accepted, given-masks}
 use Rattle.format.proofs.Modes.{masks-given}
 use Rattle.format.proofs.Passing.{first-parts, row-parts}
-use Rattle.reference.specs.Rust.{zeroDimension, requiresPalette, mutuallyExclusive, bitfieldsSource, Run, done, fails, panics, _>>=_, _>>_, some, none, failIf, okOr, isSome}
+use Rattle.reference.specs.Rust.{zeroDimension, requiresPalette, mutuallyExclusive, bitfieldsSource, Run, done, fails, panics, _>>=_, _>>_, some, none, failIf, okOr, isSome, add}
 use Rattle.reference.specs.Types.{BmpBitfields, Palette, EncodeSource, EncodeOptions, bytesPerPixel, bitsPerPixel, isIndexed, blueFirst, plainToken}
 use Rattle.reference.specs.Bitfields.{validate}
 use Rattle.reference.specs.Packing.{RowPack, packBits, sourceBytes, newLayout, packMasks, Rows, newRows}
@@ -38,6 +38,7 @@ use Rattle.reference.specs.Headers.{paletteEntryCount}
 use Rattle.reference.specs.Plan.{ColourHeader, Head, Sizes, Plan, writtenPaletteEntries, sizesOf, maxFile, assemble, plainIndexed, plainHead, planBitfields, colourIndexed, colourHead, colourRows, fromBool, profileOf, planFor, newPlan}
 use Rattle.reference.specs.Plan as reference
 use Rattle.reference.specs.Compared.{given, entriesIn, masksOf, sourceOf, optionsOf, Typed, Domain}
+use Rattle.reference.proofs.RunLaws.{add-is}
 use Rattle.reference.proofs.PackingLaws.{packOf}
 use Rattle.reference.proofs.PackingLaws.{layoutOf as layoutIn}
 use Rattle.reference.proofs.QuantiseLaws.{shift-len-is}
@@ -335,9 +336,9 @@ given-some false a = refl
 
 -- what `requested` counts
 requested-is : (i : Input)
-    → (fromBool (isSome (optionsOf i .bitfields)) + fromBool (isSome (optionsOf i .«calibrated_rgb»))
-    + fromBool (isSome (optionsOf i .«linked_icc») || isSome (cond (i .options .«embed_icc») (given (i .source .«has_icc») (i .icc)) none)))
-    ≡ one (i .options .«has_bitfields») + one (i .options .«has_calibrated_rgb») + one (profileMode (i .source .«has_linked_icc») (i .source .«has_icc») (i .options .«embed_icc»))
+    → (add 64 (fromBool (isSome (optionsOf i .bitfields))) (fromBool (isSome (optionsOf i .«calibrated_rgb»)))
+    >>= λ both. add 64 both (fromBool (isSome (optionsOf i .«linked_icc») || isSome (cond (i .options .«embed_icc») (given (i .source .«has_icc») (i .icc)) none))))
+    ≡ done (one (i .options .«has_bitfields») + one (i .options .«has_calibrated_rgb») + one (profileMode (i .source .«has_linked_icc») (i .source .«has_icc») (i .options .«embed_icc»)))
 unfolding optionsOf
 requested-is i =
     go (i .options .«has_bitfields») (i .options .«has_calibrated_rgb») (i .source .«has_linked_icc») (i .source .«has_icc») (i .options .«embed_icc») (masksOf (i .options .bitfields .bpp) (i .options .bitfields .masks))
@@ -353,10 +354,15 @@ requested-is i =
     bool true = refl
     bool false = refl
 
+    few : (b : Bool) → one b ≤ 1
+    few true = omega arith
+    few false = omega arith
+
     go : (a b l e o : Bool) (m : BmpBitfields)
-        → (fromBool (isSome (given a m)) + fromBool (isSome (given b (i .options .«calibrated_rgb»))) + fromBool (isSome (given l (i .linked)) || isSome (cond o (given e (i .icc)) none)))
-        ≡ one a + one b + one (profileMode l e o)
-    go a b l e o m = rw (given-some a m, given-some b (i .options .«calibrated_rgb»), v5 l e o, bool a, bool b, bool (profileMode l e o))
+        → (add 64 (fromBool (isSome (given a m))) (fromBool (isSome (given b (i .options .«calibrated_rgb»)))) >>= λ both. add 64 both (fromBool (isSome (given l (i .linked)) || isSome (cond o (given e (i .icc)) none))))
+        ≡ done (one a + one b + one (profileMode l e o))
+    go a b l e o m =
+        rw (given-some a m, given-some b (i .options .«calibrated_rgb»), v5 l e o, bool a, bool b, bool (profileMode l e o), add-is 64 (one a) (one b) (omega (arith, few a, few b)), add-is 64 (one a + one b) (one (profileMode l e o)) (omega (arith, few a, few b, few (profileMode l e o))))
 
 module _ (i : Input) (ok : Typed i) (domain : Domain i) where
   abbrev dims : List (Bool × Refusal)
@@ -409,11 +415,19 @@ module _ (i : Input) (ok : Typed i) (domain : Domain i) where
   chosen =
       planFor (sourceOf i) (optionsOf i) (optionsOf i .bitfields) (optionsOf i .«calibrated_rgb») (profileOf (optionsOf i .«linked_icc») (cond (optionsOf i .«embed_icc») (sourceOf i .icc) none))
 
-  modes-follow : (k : Run Plan)
-      → Follows modes
-      (failIf (ltb 1 (fromBool (isSome (optionsOf i .bitfields)) + fromBool (isSome (optionsOf i .«calibrated_rgb»)) + fromBool (isSome (optionsOf i .«linked_icc») || isSome (cond (i .options .«embed_icc») (given (i .source .«has_icc») (i .icc)) none)))) mutuallyExclusive >> k) k
+  -- the check of the modes, with what comes after it
+  abbrev exclusive : Run Plan → Run Plan
+  exclusive k =
+      add 64 (fromBool (isSome (optionsOf i .bitfields))) (fromBool (isSome (optionsOf i .«calibrated_rgb»)))
+      >>= λ both. add 64 both (fromBool (isSome (optionsOf i .«linked_icc») || isSome (cond (i .options .«embed_icc») (given (i .source .«has_icc») (i .icc)) none)))
+      >>= λ n. failIf (ltb 1 n) mutuallyExclusive >> k
+
+  modes-follow : (k : Run Plan) → Follows modes (exclusive k) k
   unfolding modeRows
-  modes-follow k = rw (requested-is i) (follow.row-fails _ SeveralModes mutuallyExclusive k refl)
+  modes-follow k =
+      let v5 : ℕ = fromBool (isSome (optionsOf i .«linked_icc») || isSome (cond (i .options .«embed_icc») (given (i .source .«has_icc») (i .icc)) none)) in
+      let two : Run ℕ = add 64 (fromBool (isSome (optionsOf i .bitfields))) (fromBool (isSome (optionsOf i .«calibrated_rgb»))) in
+      follow.from modes _ _ k (sym (bind-bind two (λ both. add 64 both v5) (λ n. failIf (ltb 1 n) mutuallyExclusive >> k)) ∙ ap (λ r. r >>= λ n. failIf (ltb 1 n) mutuallyExclusive >> k) (requested-is i)) (follow.row-fails _ SeveralModes mutuallyExclusive k refl)
 
   masks-follow : (formats.isIndexed (i .source .format) ≡ true → i .source .«has_palette» ≡ true) → Follows (givenMasksRows i) chosen (rowsIn (modeOf i) i >>= sizedIn (modeOf i) i)
   unfolding givenMasksRows modeOf sourceOf optionsOf
@@ -445,7 +459,7 @@ module _ (i : Input) (ok : Typed i) (domain : Domain i) where
   pub new-plan : Follows (checkRows i) (newPlan (sourceOf i) (optionsOf i)) (sizedIn (modeOf i) i (rowsFor (packOf (packIn (modeOf i) i)) i))
   unfolding checkRows newPlan sourceOf optionsOf
   new-plan =
-      let three : Run Plan = failIf (ltb 1 (fromBool (isSome (optionsOf i .bitfields)) + fromBool (isSome (optionsOf i .«calibrated_rgb»)) + fromBool (isSome (optionsOf i .«linked_icc») || isSome (cond (i .options .«embed_icc») (given (i .source .«has_icc») (i .icc)) none)))) mutuallyExclusive >> chosen in
+      let three : Run Plan = exclusive chosen in
       let two : Run Plan = failIf (isIndexed (i .source .format) && not (isSome (sourceOf i .palette))) requiresPalette >> three in
       follow.then (dims ++ pals ++ modes ++ givenMasksRows i) planes _ _ _
       (follow.then (dims ++ pals ++ modes) (givenMasksRows i) _ chosen _

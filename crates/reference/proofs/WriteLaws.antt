@@ -31,7 +31,7 @@ use Rattle.reference.specs.Rle.{Rle, rleCompression}
 use Rattle.reference.specs.Headers.{writeFileHeader}
 use Rattle.reference.specs.Plan.{Sizes, Plan, signedStoredHeight, writeHeader, writeHead, patchRleHead, wrote, tail, writePixels}
 use Rattle.reference.specs.Compared.{Typed}
-use Rattle.reference.proofs.RunLaws.{range-is, within-is, copy-is}
+use Rattle.reference.proofs.RunLaws.{add-is, range-is, within-is, copy-is}
 use Rattle.reference.proofs.PackingLaws.{packOf, pack-all-is}
 use Rattle.reference.proofs.SourceLaws.{RowsOk, source-is}
 use Rattle.reference.proofs.NewRows.{rowsFor}
@@ -185,10 +185,11 @@ module _ (i : Input) (ok : Typed i) (k : Checked i) (sizes : Sizes) where
       go plain d p n r = plain-is i out fileSize pixelBytes (fits .whole) (ok .width) (k .some-height) (k .tall) (r refl)
 
   -- the rows and the tail
-  pub pixels-written : i .source .stride * i .source .height < 2 ^ 64 → sizes .raw ≡ rawBytes i → (out : List ℕ)
+  pub pixels-written : i .source .stride * i .source .height < 2 ^ 64 → sizes .raw ≡ rawBytes i → (out : List ℕ) → length out + rawBytes i < 2 ^ 64
       → writePixels plan out ≡ done (wrote (formatIn (modeOf i) i) (out ++ storedRowsOf i ++ tailOf (modeOf i) i))
   unfolding writePixels
-  pixels-written product raw out =
+  pixels-written product raw out room =
+      let more : length out + rawBytes i - length out ≡ rawBytes i = omega arith in
       let small : rawBytes i % 18446744073709551616 ≡ rawBytes i = mod-eq-of-lt (omega (arith, PlanSizes.raw-small i ok k)) in
       let packed = within-rest out (replicate (rawBytes i) 0) (storedRowsOf i) (packAll (plan .rows)) (rows-packed product) in
-      rw (raw, small, packed, tail-is (modeOf i) i)
+      rw (raw, small, add-is 64 (length out) (rawBytes i) room, more, packed, tail-is (modeOf i) i)

@@ -127,7 +127,8 @@ unfoldable pub index2 : List ℕ → ℕ → List ℕ → Run (List ℕ)
 index2 src x dst = do
   byte ← at src x
   let idx = bitAnd byte 0x03
-  shift ← sub 6 (2 * (x % 4))
+  pairs ← mul usize 2 (x % 4)
+  shift ← sub 6 pairs
   orAt dst (x / 4) (← shl u8 idx shift)
 
 unfoldable pub index1 : List ℕ → ℕ → List ℕ → Run (List ℕ)

@@ -1,5 +1,5 @@
 -- The plan, its sizes and its writing (encoder.rs, section "The file plan"), and `encode_source`.
-use Prim.Native.Nat.{ℕ, _+_, _-_, _*_, _^_, min, max}
+use Prim.Native.Nat.{ℕ, _-_, _*_, _^_, min, max}
 use mathlib.Core.Bool.{Bool, true, false, not, cond, _&&_, _||_}
 use mathlib.Core.List.{List, [], _∷_}
 use lib.Dec.{ltb, leb, eqb}
@@ -9,7 +9,7 @@ use Rattle.leaves.specs.declared.image.BmpPixelFormat.the-variants as source
 use Rattle.leaves.specs.declared.encoder.EncodedBmpFormat.{EncodedBmpFormat}
 use Rattle.leaves.specs.declared.encoder.EncodedBmpFormat.the-variants as written
 use Rattle.leaves.specs.declared.options.CalibratedRgb.{CalibratedRgb}
-use Rattle.reference.specs.Rust.{Error, zeroDimension, requiresPalette, mutuallyExclusive, pixelArrayOverflows, fileOverflows, overLimit, notAddressable, rleOverLimit, Run, done, fails, _>>=_, _>>_, Option, some, none, failIf, okOr, isSome, u32, u64, usize, add, sub, mul, cast, checkedAdd, checkedMul, saturatingSub, negated, toLeBytes, range, within, copyFromSlice, assertEqual, extend, reserve, truncate, grow}
+use Rattle.reference.specs.Rust.{Error, zeroDimension, requiresPalette, mutuallyExclusive, pixelArrayOverflows, fileOverflows, overLimit, notAddressable, rleOverLimit, Run, done, fails, _>>=_, _>>_, Option, some, none, failIf, okOr, isSome, u32, u64, usize, add, sub, mul, cast, checkedAdd, checkedMul, saturatingSub, negated, toLeBytes, range, within, copyFromSlice, assertEqual, extend, reserve, truncate, resize}
 use Rattle.reference.specs.Types.{BmpBitfields, Palette, EncodeSource, EncodeOptions, bytesPerPixel, bitsPerPixel, isIndexed, blueFirst, plainToken}
 use Rattle.reference.specs.Bitfields.{hasAlpha, masksCompression, validate}
 use Rattle.reference.specs.Packing.{RowPack, Bgra32, Bgr24, Words16, Indexed, packMasks, Rows, newRows, packAll}
@@ -267,7 +267,8 @@ newPlan src options = do
   failIf (isIndexed (src .format) && not (isSome (src .palette))) requiresPalette
   let embedded = cond (options .«embed_icc») (src .icc) none
   let v5 = isSome (options .«linked_icc») || isSome embedded
-  let requested = fromBool (isSome (options .bitfields)) + fromBool (isSome (options .«calibrated_rgb»)) + fromBool v5
+  both ← add usize (fromBool (isSome (options .bitfields))) (fromBool (isSome (options .«calibrated_rgb»)))
+  requested ← add usize both (fromBool v5)
   failIf (ltb 1 requested) mutuallyExclusive
   planFor src options (options .bitfields) (options .«calibrated_rgb») (profileOf (options .«linked_icc») embedded)
 
@@ -334,7 +335,8 @@ tail (V5Profile header csType intent blob) = blob
 unfoldable pub writePixels : Plan → List ℕ → Run Appended
 writePixels self out = do
   let pixels = length out
-  let grown = grow out (cast usize (self .sizes .raw))
+  end ← add usize pixels (cast usize (self .sizes .raw))
+  let grown = resize out end
   packed ← within grown pixels (length grown) (packAll (self .rows))
   done (wrote (self .format) (extend packed (tail (self .head))))
 

@@ -111,7 +111,8 @@ pairTurn row start abs m out = do
   let k = 2 * m
   first ← add usize start k
   hi ← nibble row first
-  lo ← nibbleIf (ltb (k + 1) abs) row (add usize first 1)
+  beside ← add usize k 1
+  lo ← nibbleIf (ltb beside abs) row (add usize first 1)
   byte ← nibbles hi lo
   done (push out byte)
 

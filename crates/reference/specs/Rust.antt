@@ -160,9 +160,9 @@ reserve out n = cond (ltb (length out + n) (2 ^ 63)) (done out) panics
 abbrev pub truncate : List ℕ → ℕ → List ℕ
 truncate out n = take n out
 
--- out.resize(out.len() + n, 0)
-abbrev pub grow : List ℕ → ℕ → List ℕ
-grow out n = out ++ replicate n 0
+-- out.resize(n, 0), where n is no less than out.len()
+abbrev pub resize : List ℕ → ℕ → List ℕ
+resize out n = out ++ replicate (n - length out) 0
 
 -- ---- loops
 

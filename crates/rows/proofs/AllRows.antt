@@ -17,7 +17,7 @@ use Rattle.rows.specs.Packing.{packed}
 use Rattle.rows.specs.StoredRows.{padded, cell24, cell32, maskCell, storedRow, packBits, packBytes, LayoutOk, PackOk, rowOf, sourceRow, storedRows}
 use Rattle.leaves.proofs.ListLaws.{length-tab, length-cat}
 use Rattle.rows.proofs.PackLaws.{put-cell}
-use Rattle.rows.proofs.MaskCells.{length-maskCell, cells-fit}
+use Rattle.rows.proofs.MaskCells.{all-put, length-maskCell, cells-fit}
 
 -- what is asked of source and buffer for a packing is asked for the case that it is
 pub case-asks : (p q : RowPack) (w n at l : ℕ) → p ≡ q → n ≡ w * packBytes p → at + rowStride w (packBits p) ≤ l
@@ -118,4 +118,4 @@ next-row pack ok w h stride at y o from stored n topDown plane d b e size bytes 
 pub all-rows : (pack : RowPack) (w h stride at y : ℕ) (topDown : Bool) (plane d b : List ℕ) → y ≡ h
     → b ≡ put d at (cat (rowAt pack w h topDown plane stride) y) → b ≡ put d at (storedRows pack w h topDown plane stride)
 unfolding storedRows
-all-rows pack w h stride at y topDown plane d b e was = was ∙ ap (λ (z : ℕ). put d at (cat (rowAt pack w h topDown plane stride) z)) e
+all-rows pack w h stride at y topDown plane d b e was = all-put (rowAt pack w h topDown plane stride) d b at y h e was

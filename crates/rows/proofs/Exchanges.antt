@@ -8,14 +8,14 @@ use native.Mathlib.Omega.{arith}
 use borrow.Author.Tests.{eq-eqb, ne-eqb}
 use lib.Bits.{bitAnd, bitOr, and-mask, and-zero-r, or-zero-r, or-comm}
 use lib.Dec.{eqb}
-use lib.ListN.{length, getD, set, drop, length-set}
+use lib.ListN.{length, getD, drop}
 use lib.Seq.{drop-at}
 use Rattle.leaves.specs.Lists.{tab, cat}
 use Rattle.leaves.specs.Put.{put}
 use Rattle.rows.specs.StoredRows.{cell24, exchangedByte}
 use Rattle.leaves.proofs.ListLaws.{length-tab}
 use Rattle.leaves.proofs.Puts.{put-append}
-use Rattle.rows.proofs.Cells.{finished}
+use Rattle.rows.proofs.Cells.{finished, length-cell24, one-cell, no-cell}
 
 -- the three bytes of cell x
 blue : (row : List ℕ) (k x : ℕ) → k ≡ x * 3 → exchangedByte row k ≡ getD row (x * 3 + 2) 0
@@ -38,7 +38,7 @@ red row k x e =
     rw (ne-eqb (k % 3) 0 n, ne-eqb (k % 3) 1 m) (ap (λ (n : ℕ). getD row n 0) p)
 
 -- the cells, joined, are those bytes
-pub cells-bytes : (row : List ℕ) (w : ℕ) → cat (cell24 false row) w ≡ tab (exchangedByte row) (w * 3)
+cells-bytes : (row : List ℕ) (w : ℕ) → cat (cell24 false row) w ≡ tab (exchangedByte row) (w * 3)
 unfolding cat tab cell24
 cells-bytes row zero = refl
 cells-bytes row (suc w) =
@@ -73,7 +73,7 @@ sixteen-cells row d₀ d e at x y was is next room =
     rw (is, was, p) (put-append d₀ at (cat f x) t (omega arith) ∙ ap (put d₀ at) s)
 
 -- the cells after those that are put
-pub cells-left : (row d b : List ℕ) (at x w : ℕ) → x ≤ w → at + w * 3 ≤ length d → b ≡ put d at (cat (cell24 false row) x)
+cells-left : (row d b : List ℕ) (at x w : ℕ) → x ≤ w → at + w * 3 ≤ length d → b ≡ put d at (cat (cell24 false row) x)
     → finished (cell24 false row) 3 w b at x ≡ put d at (cat (cell24 false row) w)
 unfolding finished
 cells-left row d b at x w h room was =
@@ -87,6 +87,19 @@ cells-left row d b at x w h room was =
     let p : at + x * 3 ≡ at + length (cat f x) = omega arith in
     rw (r, was, p) (put-append d at (cat f x) t (omega arith)) ∙ ap (put d at) (sym s)
 
+-- once no cell is left, or only the last, all cells are put
+module _ (row d₀ m d : List ℕ) (at y x w : ℕ) (h : y ≤ w) (room : at + w * 3 ≤ length d₀) (was : m ≡ put d₀ at (cat (cell24 false row) y))
+    (left : finished (cell24 false row) 3 w d at x ≡ finished (cell24 false row) 3 w m at y) where
+  pub all-exchanged : w ≤ x → d ≡ put d₀ at (cat (cell24 false row) w)
+  all-exchanged none = sym (no-cell (cell24 false row) 3 (length-cell24 false row) w x at d none) ∙ left ∙ cells-left row d₀ m at y w h room was
+
+  pub last-exchanged : (e : List ℕ) → x < w → w ≤ x + 1 → at + w * 3 ≤ length d → e ≡ put d (at + x * 3) (cell24 false row x) → e ≡ put d₀ at (cat (cell24 false row) w)
+  last-exchanged e some last space is =
+      sym (no-cell (cell24 false row) 3 (length-cell24 false row) w (x + 1) at e last)
+      ∙ one-cell (cell24 false row) 3 (length-cell24 false row) w x (at + x * 3) at d e some space refl is
+      ∙ left
+      ∙ cells-left row d₀ m at y w h room was
+
 -- a byte is that of its place in the row
 pub byte-at : (row : List ℕ) (i j v : ℕ) → i % 3 ≡ 0 → v ≡ cond (eqb (j % 3) 0) (getD row (i + j + 2) 0) (cond (eqb (j % 3) 1) (getD row (i + j) 0) (getD row (i + j - 2) 0))
     → v ≡ exchangedByte row (i + j)
@@ -97,10 +110,6 @@ byte-at row i j v e f = let p : (i + j) % 3 ≡ j % 3 = omega arith in rw p f
 pub first-cell : (row d : List ℕ) (at : ℕ) (e : List ℕ) → e ≡ put d at (cell24 false row 0) → e ≡ put d at (cat (cell24 false row) 1)
 unfolding cat
 first-cell row d at e is = is
-
--- three stores change no length
-pub length-stores : (d : List ℕ) (i j k p q r : ℕ) → length (set (set (set d i p) j q) k r) ≡ length d
-length-stores d i j k p q r = simp length-set
 
 -- of three bytes under masks the one whose mask has ones
 masked : (r a h b : ℕ) → r < 3 → a < 256 → h < 256 → b < 256

@@ -20,7 +20,7 @@ bits-ext f g zero h = refl
 bits-ext f g (suc n) h = rw (h 0 (omega arith), bits-ext (λ k. f (suc k)) (λ k. g (suc k)) n (λ k l. h (suc k) (omega arith)))
 
 -- one more bit at the top
-pub bits-snoc : (f : ℕ → Bool) (n : ℕ) → fromBits f (suc n) ≡ bit (f n) * 2 ^ n + fromBits f n
+bits-snoc : (f : ℕ → Bool) (n : ℕ) → fromBits f (suc n) ≡ bit (f n) * 2 ^ n + fromBits f n
 unfolding fromBits
 bits-snoc f zero = omega arith
 bits-snoc f (suc n) = omega (arith, bits-snoc (λ k. f (suc k)) n, ap (λ (z : ℕ). bit (f (suc n)) * z) (pow-suc 2 n))
@@ -162,7 +162,7 @@ bits-top f j n a b = go (f j) refl
         let z : ⊥ = omega (arith, bits-lt f j, low, x) in
         absurd z
 
-pub bits-none : (f : ℕ → Bool) (n : ℕ) → ((k : ℕ) → k < n → f k ≡ false) → fromBits f n ≡ 0
+bits-none : (f : ℕ → Bool) (n : ℕ) → ((k : ℕ) → k < n → f k ≡ false) → fromBits f n ≡ 0
 unfolding fromBits
 bits-none f zero h = refl
 bits-none f (suc n) h = rw (h 0 (omega arith), bits-none (λ k. f (suc k)) n (λ k l. h (suc k) (omega arith)))

@@ -1,15 +1,16 @@
 -- Laws of loops that append cells of one length, and of mask mode: a field, a word and the cells of a row.
 use mathlib.Core.Path.{_≡_, refl, sym, ap, _∙_}
-use mathlib.Core.Bool.{Bool, true, false, cond}
+use mathlib.Core.Bool.{Bool, false, cond}
 use mathlib.Core.Logic.{_⊎_, inl, inr}
 use mathlib.Core.List.{List}
 use Prim.Native.Nat.{ℕ, _+_, _-_, _*_, _/_, _%_, _^_, _≤_, _<_}
-use native.Mathlib.Nat.{zero-mul, suc-mul, mul-le-mul-right}
+use native.Mathlib.Nat.{add-zero, zero-mul, suc-mul, mul-le-mul-right}
 use native.Mathlib.Numerals.{add-one}
 use native.Mathlib.Omega.{arith}
 use borrow.Author.Tests.{eq-eqb, ne-eqb}
 use lib.Arith.{lt-one}
 use lib.Bits.{bitOr}
+use lib.Dec.{eqb}
 use lib.ListN.{length, getD, replicate}
 use lib.Pow.{shl-exact, mod-mod-pow, field as middle}
 use Rattle.leaves.specs.declared.bitfields.MaskShiftLen.{MaskShiftLen}
@@ -30,6 +31,10 @@ use Rattle.rows.proofs.PackLaws.{put-padded}
 pub no-cells : (f : ℕ → List ℕ) (d : List ℕ) (at : ℕ) → d ≡ put d at (cat f 0)
 unfolding cat
 no-cells f d at = sym (put-nil d at)
+
+-- and after the last all are
+pub all-put : (f : ℕ → List ℕ) (d e : List ℕ) (at x w : ℕ) → x ≡ w → e ≡ put d at (cat f x) → e ≡ put d at (cat f w)
+all-put f d e at x w all is = is ∙ ap (λ (z : ℕ). put d at (cat f z)) all
 
 -- the place after one cell more
 pub next-place : (at x k o q : ℕ) → o ≡ at + x * k → q ≡ o + k → q ≡ at + (x + 1) * k
@@ -56,30 +61,39 @@ pub three-bytes : (n : ℕ) → (n ≡ 3) ⊎ (n ≡ 4) → 3 ≤ n
 three-bytes n (inl e) = omega arith
 three-bytes n (inr e) = omega arith
 
--- where blue stands in a pixel
-blue-at : (bgr : Bool) (red : ℕ) → red ≡ cond bgr 2 0 → 2 - red ≡ cond bgr 0 2
-blue-at true red e = rw e
-blue-at false red e = rw e
-
 -- a word has the bits of its four fields
-pub word-of : (layout : MaskLayout) (n : ℕ) (bgr : Bool) (row : List ℕ) (x red alpha r g b a : ℕ) → red ≡ cond bgr 2 0 → alpha ≡ alphaIn n row x
-    → r ≡ field (layout .r) (getD row (x * n + red) 0) → g ≡ field (layout .g) (getD row (x * n + 1) 0)
-    → b ≡ field (layout .b) (getD row (x * n + (2 - red)) 0) → a ≡ field (layout .a) alpha → bitOr (bitOr (bitOr r g) b) a ≡ maskWord layout n bgr row x
+pub word-of : (layout : MaskLayout) (n : ℕ) (row : List ℕ) (x alpha r g b a : ℕ) → alpha ≡ alphaIn n row x
+    → r ≡ field (layout .r) (getD row (x * n) 0) → g ≡ field (layout .g) (getD row (x * n + 1) 0)
+    → b ≡ field (layout .b) (getD row (x * n + 2) 0) → a ≡ field (layout .a) alpha → bitOr (bitOr (bitOr r g) b) a ≡ maskWord layout n false row x
 unfolding maskWord
-word-of layout n bgr row x red alpha r g b a er el r' g' b' a' = rw (r', g', b', a', el, blue-at bgr red er, er)
+word-of layout n row x alpha r g b a el r' g' b' a' = rw (r', g', b', a', el, add-zero (x * n))
 
 -- a cell of 16 bits is the word's low half
-pub cell16 : (layout : MaskLayout) (n : ℕ) (bgr : Bool) (row : List ℕ) (x v : ℕ) → layout .bpp ≡ 16 → v ≡ maskWord layout n bgr row x → le16 (v % 65536) ≡ maskCell layout n bgr row x
-unfolding maskCell le16
-cell16 layout n bgr row x v e f =
+pub word16 : (bpp v : ℕ) → bpp ≡ 16 → le16 (v % 65536) ≡ cond (eqb bpp 16) (le16 v) (le32 v)
+unfolding le16
+word16 bpp v e =
     let p : v % 65536 % 256 ≡ v % 256 = mod-mod-pow v 8 8 in
     let q : v % 65536 / 256 % 256 ≡ v / 256 % 256 = omega (arith, middle v 8 8) in
-    rw (eq-eqb (layout .bpp) 16 e, p, q, f)
+    rw (eq-eqb bpp 16 e, p, q)
 
 -- any other cell is the whole word
-pub cell32 : (layout : MaskLayout) (n : ℕ) (bgr : Bool) (row : List ℕ) (x v : ℕ) → (layout .bpp ≡ 16 → ⊥) → v ≡ maskWord layout n bgr row x → le32 v ≡ maskCell layout n bgr row x
-unfolding maskCell
-cell32 layout n bgr row x v e f = rw (ne-eqb (layout .bpp) 16 e, f)
+pub word32 : (bpp v : ℕ) → (bpp ≡ 16 → ⊥) → le32 v ≡ cond (eqb bpp 16) (le16 v) (le32 v)
+word32 bpp v e = rw (ne-eqb bpp 16 e)
+
+-- the word of a pixel gives its cell
+module _ (layout : MaskLayout) (n : ℕ) (bgr : Bool) (row : List ℕ) (x v : ℕ) where
+  word-cell : v ≡ maskWord layout n bgr row x → cond (eqb (layout .bpp) 16) (le16 v) (le32 v) ≡ maskCell layout n bgr row x
+  unfolding maskCell
+  word-cell f = ap (λ (z : ℕ). cond (eqb (layout .bpp) 16) (le16 z) (le32 z)) f
+
+  pub word-put : (d e : List ℕ) (at : ℕ) → v ≡ maskWord layout n bgr row x → e ≡ put d at (cond (eqb (layout .bpp) 16) (le16 v) (le32 v)) → e ≡ put d at (maskCell layout n bgr row x)
+  word-put d e at f is = is ∙ ap (put d at) (word-cell f)
+
+  pub cell16 : layout .bpp ≡ 16 → v ≡ maskWord layout n bgr row x → le16 (v % 65536) ≡ maskCell layout n bgr row x
+  cell16 e f = word16 (layout .bpp) v e ∙ word-cell f
+
+  pub cell32 : (layout .bpp ≡ 16 → ⊥) → v ≡ maskWord layout n bgr row x → le32 v ≡ maskCell layout n bgr row x
+  cell32 e f = word32 (layout .bpp) v e ∙ word-cell f
 
 -- a cell has as many bytes as the depth says
 pub length-maskCell : (layout : MaskLayout) (n : ℕ) (bgr : Bool) (row : List ℕ) → (layout .bpp ≡ 16) ⊎ (layout .bpp ≡ 32) → (x : ℕ)
@@ -93,25 +107,16 @@ unfolding rowStride
 cells-fit w bpp (inl e) = rw e (omega arith)
 cells-fit w bpp (inr e) = rw e (omega arith)
 
--- there is room for the next cell
-pub cell-room : (at x w bpp o l : ℕ) → (bpp ≡ 16) ⊎ (bpp ≡ 32) → o ≡ at + x * (bpp / 8) → x < w → at + rowStride w bpp ≤ l → o + bpp / 8 ≤ l
-cell-room at x w bpp o l d e h k = omega (arith, cells-fit w bpp d, next-fits at x w (bpp / 8) o e h)
-
--- the cells put so far end within the stored row
-pub cells-end : (at x w bpp o : ℕ) → (bpp ≡ 16) ⊎ (bpp ≡ 32) → o ≡ at + x * (bpp / 8) → x ≤ w → o ≤ at + rowStride w bpp
-cells-end at x w bpp o d e h = omega (arith, cells-fit w bpp d, mul-le-mul-right (bpp / 8) h)
-
 -- all cells, and then zeros, are the stored row
-pub masks-end : (layout : MaskLayout) (n : ℕ) (bgr : Bool) (row d b e : List ℕ) (at x w o r : ℕ) → (layout .bpp ≡ 16) ⊎ (layout .bpp ≡ 32)
-    → b ≡ put d at (cat (maskCell layout n bgr row) x) → o ≡ at + x * (layout .bpp / 8) → x ≡ w → r ≡ rowStride w (layout .bpp)
-    → at + rowStride w (layout .bpp) ≤ length d → e ≡ put b o (replicate (r - (o - at)) 0) → e ≡ put d at (storedRow (Masks n bgr layout) w row)
+pub masks-end : (layout : MaskLayout) (n : ℕ) (bgr : Bool) (row d b e : List ℕ) (at w r : ℕ) → (layout .bpp ≡ 16) ⊎ (layout .bpp ≡ 32)
+    → b ≡ put d at (cat (maskCell layout n bgr row) w) → r ≡ rowStride w (layout .bpp) → at + rowStride w (layout .bpp) ≤ length d
+    → e ≡ put b (at + w * (layout .bpp / 8)) (replicate (r - w * (layout .bpp / 8)) 0) → e ≡ put d at (storedRow (Masks n bgr layout) w row)
 unfolding storedRow
-masks-end layout n bgr row d b e at x w o r depth was place all stride room is =
+masks-end layout n bgr row d b e at w r depth was stride room is =
     let f = maskCell layout n bgr row in
     let l : length (cat f w) ≡ w * (layout .bpp / 8) = length-cat f (layout .bpp / 8) w (λ i h. length-maskCell layout n bgr row depth i) in
-    let p : o ≡ at + length (cat f w) = place ∙ ap (λ (z : ℕ). at + z * (layout .bpp / 8)) all ∙ ap (λ (z : ℕ). at + z) (sym l) in
     let within = cells-fit w (layout .bpp) depth in
-    put-padded d b e (cat f w) at o (r - (o - at)) (rowStride w (layout .bpp)) (was ∙ ap (λ (z : ℕ). put d at (cat f z)) all) is p (omega arith) (omega arith)
+    put-padded d b e (cat f w) at (at + w * (layout .bpp / 8)) (r - w * (layout .bpp / 8)) (rowStride w (layout .bpp)) was is (omega arith) (omega arith) (omega arith)
 
 -- a cell that has not 16 bits has 4 bytes
 pub four-bytes : (bpp : ℕ) → (bpp ≡ 16) ⊎ (bpp ≡ 32) → (bpp ≡ 16 → ⊥) → bpp / 8 ≡ 4

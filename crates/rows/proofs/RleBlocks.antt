@@ -98,7 +98,7 @@ length-bytes d (Absolute n) ys = simp length-tab (omega arith)
 
 -- ---- codes
 
-pub codes-skip : (d s : ℕ) (xs : List ℕ) → codes d s xs ≡ codes d 0 (drop s xs)
+codes-skip : (d s : ℕ) (xs : List ℕ) → codes d s xs ≡ codes d 0 (drop s xs)
 unfolding codes
 codes-skip d zero xs = refl
 codes-skip d (suc s) [] = refl
@@ -119,7 +119,7 @@ codes-at d deep xs at h =
     rw (add-one at, drop-cons xs at 0 h) (ap (λ (zs : List ℕ). bytes d b (getD xs at 0 ∷ ys) ++ zs) k)
 
 -- codes take two bytes a cell at most
-pub codes-short : (d : ℕ) → d ≤ 8 → (s : ℕ) (xs : List ℕ) → length (codes d s xs) ≤ 2 * (length xs - s)
+codes-short : (d : ℕ) → d ≤ 8 → (s : ℕ) (xs : List ℕ) → length (codes d s xs) ≤ 2 * (length xs - s)
 unfolding codes
 codes-short d deep s [] = omega arith
 codes-short d deep (suc s) (x ∷ xs) = let h = codes-short d deep s xs in omega arith
@@ -135,7 +135,7 @@ unfolding rowCodes
 row-short d deep row = omega (arith, codes-short d deep 0 (cells d row), length-cells d row)
 
 -- and two bytes for each 255 cells begun at least
-pub codes-long : (d : ℕ) → d ≤ 8 → (s : ℕ) (xs : List ℕ) → 2 * ((length xs - s + 254) / 255) ≤ length (codes d s xs)
+codes-long : (d : ℕ) → d ≤ 8 → (s : ℕ) (xs : List ℕ) → 2 * ((length xs - s + 254) / 255) ≤ length (codes d s xs)
 unfolding codes
 codes-long d deep s [] = omega arith
 codes-long d deep (suc s) (x ∷ xs) = let h = codes-long d deep s xs in omega arith

@@ -63,7 +63,7 @@ module _ (on : ℕ → List ℕ → Bool) (d : ℕ) (row : List ℕ) (t : ℕ �
   moved : (n n′ p p′ : ℕ) → n ≡ n′ → p ≡ p′ → scan on n (drop p (cells d row)) ≡ scan on n′ (drop p′ (cells d row))
   moved n n′ p p′ e f = ap₂ (λ (x y : ℕ). scan on x (drop y (cells d row))) e f
 
-  pub leap-stop : (m n p : ℕ) → ((i : ℕ) → p ≤ i → i < p + m → on (getD (cells d row) i 0) (drop (i + 1) (cells d row)) ≡ t i) → p + m ≤ length row → n + m ≤ 255
+  leap-stop : (m n p : ℕ) → ((i : ℕ) → p ≤ i → i < p + m → on (getD (cells d row) i 0) (drop (i + 1) (cells d row)) ≡ t i) → p + m ≤ length row → n + m ≤ 255
       → leading t p m < m → scan on n (drop p (cells d row)) ≡ n + leading t p m
   unfolding leading
   leap-stop zero n p h k l r = absurd (not-suc-le-zero r)
@@ -76,7 +76,7 @@ module _ (on : ℕ → List ℕ → Bool) (d : ℕ) (row : List ℕ) (t : ℕ �
       go true e r i = scan-step on d row n p (p + 1) refl (omega arith) (omega arith) (h p (omega arith) (omega arith) ∙ e) ∙ i (omega arith) ∙ omega arith
       go false e r i = scan-stop on d row n p (p + 1) refl (omega arith) (h p (omega arith) (omega arith) ∙ e) ∙ omega arith
 
-  pub leap-on : (m n p : ℕ) → ((i : ℕ) → p ≤ i → i < p + m → on (getD (cells d row) i 0) (drop (i + 1) (cells d row)) ≡ t i) → p + m ≤ length row → n + m ≤ 255
+  leap-on : (m n p : ℕ) → ((i : ℕ) → p ≤ i → i < p + m → on (getD (cells d row) i 0) (drop (i + 1) (cells d row)) ≡ t i) → p + m ≤ length row → n + m ≤ 255
       → m ≤ leading t p m → scan on n (drop p (cells d row)) ≡ scan on (n + m) (drop (p + m) (cells d row))
   unfolding leading
   leap-on zero n p h k l r = moved n (n + 0) p (p + 0) (omega arith) (omega arith)

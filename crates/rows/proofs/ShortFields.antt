@@ -8,22 +8,20 @@ use native.Mathlib.Nat.{zero-mul, eq-or-lt-of-le}
 use native.Mathlib.Omega.{arith}
 use lib.Bits.{bitOr}
 use lib.Dec.{eqb}
-use lib.ListN.{length, getD, replicate}
+use lib.ListN.{length, getD}
 use lib.Pow.{shl-exact}
 use Rattle.leaves.specs.declared.bitfields.MaskShiftLen.{MaskShiftLen}
 use Rattle.rows.specs.declared.pack.MaskLayout.{MaskLayout}
-use Rattle.rows.specs.declared.pack.RowPack.the-variants.{Masks}
 use Rattle.leaves.specs.Bytes.{le16, le32}
 use Rattle.leaves.specs.Fit.{fit}
 use Rattle.leaves.specs.Lists.{cat}
 use Rattle.leaves.specs.Put.{put}
 use Rattle.leaves.specs.Sizes.{rowStride}
-use Rattle.rows.specs.StoredRows.{field, maskWord, maskCell, cell32, storedRow, LayoutOk, ShortOk}
+use Rattle.rows.specs.StoredRows.{field, alphaIn, maskWord, maskCell, cell32, LayoutOk}
 use Rattle.leaves.proofs.BitLaws.{or-turn}
 use Rattle.leaves.proofs.Fitting.{fit-lt, fit-short}
-use Rattle.leaves.proofs.ListLaws.{cat-ext, length-cat}
-use Rattle.rows.proofs.PackLaws.{padded-full}
-use Rattle.rows.proofs.MaskCells.{length-maskCell, masks-end}
+use Rattle.leaves.proofs.ListLaws.{cat-ext}
+use Rattle.rows.proofs.MaskCells.{length-maskCell, cells-fit}
 
 -- a fitted sample in its place, as the code shifts it; a channel of no bits has any shift, and adds nothing
 pub short-field : (ch : MaskShiftLen) (s : ℕ) → s < 256 → ch .len ≤ 16 → ch .shift + ch .len ≤ 32
@@ -56,25 +54,26 @@ unfolding maskWord le32
 of-fields layout pixel r g b a r' g' b' a' = rw (r', g', b', a')
 
 -- where blue comes first, the layout with red and blue exchanged makes the same cells
-module _ (l m : MaskLayout) (bgr : Bool) (row : List ℕ) (depth : m .bpp ≡ l .bpp) (red : m .r ≡ cond bgr (l .b) (l .r)) (green : m .g ≡ l .g) (blue : m .b ≡ cond bgr (l .r) (l .b)) (alpha : m .a ≡ l .a) where
-  word-ordered : (b : Bool) → b ≡ bgr → (x : ℕ) → maskWord m 4 false row x ≡ maskWord l 4 b row x
+module _ (l m : MaskLayout) (bgr : Bool)
+    (same : (m .bpp ≡ l .bpp) × (m .r ≡ cond bgr (l .b) (l .r)) × (m .g ≡ l .g) × (m .b ≡ cond bgr (l .r) (l .b)) × (m .a ≡ l .a)) where
+  word-ordered : (b : Bool) → b ≡ bgr → (n : ℕ) (row : List ℕ) (x : ℕ) → maskWord m n false row x ≡ maskWord l n b row x
   unfolding maskWord
-  word-ordered true e x =
-      let r : m .r ≡ l .b = red ∙ ap (λ (z : Bool). cond z (l .b) (l .r)) (sym e) in
-      let t : m .b ≡ l .r = blue ∙ ap (λ (z : Bool). cond z (l .r) (l .b)) (sym e) in
-      rw (r, t, green, alpha)
-      (ap (λ (z : ℕ). bitOr z (field (l .a) (getD row (x * 4 + 3) 0))) (or-turn (field (l .b) (getD row (x * 4 + 0) 0)) (field (l .g) (getD row (x * 4 + 1) 0)) (field (l .r) (getD row (x * 4 + 2) 0))))
-  word-ordered false e x =
-      let r : m .r ≡ l .r = red ∙ ap (λ (z : Bool). cond z (l .b) (l .r)) (sym e) in
-      let t : m .b ≡ l .b = blue ∙ ap (λ (z : Bool). cond z (l .r) (l .b)) (sym e) in
-      rw (r, t, green, alpha)
+  word-ordered true e n row x =
+      let r : m .r ≡ l .b = same .1 ∙ ap (λ (z : Bool). cond z (l .b) (l .r)) (sym e) in
+      let t : m .b ≡ l .r = same .3 ∙ ap (λ (z : Bool). cond z (l .r) (l .b)) (sym e) in
+      rw (r, t, same .2, same .4)
+      (ap (λ (z : ℕ). bitOr z (field (l .a) (alphaIn n row x))) (or-turn (field (l .b) (getD row (x * n + 0) 0)) (field (l .g) (getD row (x * n + 1) 0)) (field (l .r) (getD row (x * n + 2) 0))))
+  word-ordered false e n row x =
+      let r : m .r ≡ l .r = same .1 ∙ ap (λ (z : Bool). cond z (l .b) (l .r)) (sym e) in
+      let t : m .b ≡ l .b = same .3 ∙ ap (λ (z : Bool). cond z (l .r) (l .b)) (sym e) in
+      rw (r, t, same .2, same .4)
 
-  pub cell-ordered : (x : ℕ) → maskCell m 4 false row x ≡ maskCell l 4 bgr row x
+  cell-ordered : (n : ℕ) (row : List ℕ) (x : ℕ) → maskCell m n false row x ≡ maskCell l n bgr row x
   unfolding maskCell
-  cell-ordered x = ap₂ (λ (n v : ℕ). cond (eqb n 16) (le16 v) (le32 v)) depth (word-ordered bgr refl x)
+  cell-ordered n row x = ap₂ (λ (d v : ℕ). cond (eqb d 16) (le16 v) (le32 v)) (same .0) (word-ordered bgr refl n row x)
 
-  pub cells-ordered : (w : ℕ) → cat (maskCell m 4 false row) w ≡ cat (maskCell l 4 bgr row) w
-  cells-ordered w = cat-ext (maskCell m 4 false row) (maskCell l 4 bgr row) w (λ x _. cell-ordered x)
+  pub put-ordered : (n : ℕ) (row d e : List ℕ) (at w : ℕ) → e ≡ put d at (cat (maskCell m n false row) w) → e ≡ put d at (cat (maskCell l n bgr row) w)
+  put-ordered n row d e at w is = is ∙ ap (put d at) (cat-ext (maskCell m n false row) (maskCell l n bgr row) w (λ x _. cell-ordered n row x))
 
   either : (P : MaskShiftLen → Type 0) (b : Bool) (x y : MaskShiftLen) → P x → P y → P (cond b x y)
   either P true x y p q = p
@@ -85,43 +84,15 @@ module _ (l m : MaskLayout) (bgr : Bool) (row : List ℕ) (depth : m .bpp ≡ l 
   layout-ordered k =
       let P : MaskShiftLen → Type 0 = λ ch. ch .shift + ch .len ≤ 32 in
       record {
-        depth = subst (λ (n : ℕ). (n ≡ 16) ⊎ (n ≡ 32)) (sym depth) (k .depth);
-        red = subst P (sym red) (either P bgr (l .b) (l .r) (k .blue) (k .red));
-        green = subst P (sym green) (k .green);
-        blue = subst P (sym blue) (either P bgr (l .r) (l .b) (k .red) (k .blue));
-        alpha = subst P (sym alpha) (k .alpha);
+        depth = subst (λ (n : ℕ). (n ≡ 16) ⊎ (n ≡ 32)) (sym (same .0)) (k .depth);
+        red = subst P (sym (same .1)) (either P bgr (l .b) (l .r) (k .blue) (k .red));
+        green = subst P (sym (same .2)) (k .green);
+        blue = subst P (sym (same .3)) (either P bgr (l .r) (l .b) (k .red) (k .blue));
+        alpha = subst P (sym (same .4)) (k .alpha);
       }
 
-  pub short-ordered : ShortOk l → ShortOk m
-  short-ordered k =
-      let P : MaskShiftLen → Type 0 = λ ch. ch .len ≤ 16 in
-      record {
-        red = subst P (sym red) (either P bgr (l .b) (l .r) (k .blue) (k .red));
-        green = subst P (sym green) (k .green);
-        blue = subst P (sym blue) (either P bgr (l .r) (l .b) (k .red) (k .blue));
-        alpha = subst P (sym alpha) (k .alpha);
-      }
-
--- all cells of 16 bits, and zeros after them
-pub stored-short16 : (layout : MaskLayout) (bgr : Bool) (row d b e : List ℕ) (at w r : ℕ) → layout .bpp ≡ 16 → b ≡ put d at (cat (maskCell layout 4 bgr row) w)
-    → r ≡ rowStride w 16 → at + rowStride w (layout .bpp) ≤ length d → e ≡ put b (at + w * 2) (replicate (r - w * 2) 0)
-    → e ≡ put d at (storedRow (Masks 4 bgr layout) w row)
-stored-short16 layout bgr row d b e at w r deep was stride room is =
-    let p : at + w * 2 ≡ at + w * (16 / 8) = omega arith in
-    let q : at + w * (16 / 8) ≡ at + w * (layout .bpp / 8) = ap (λ (z : ℕ). at + w * (z / 8)) (sym deep) in
-    let n : r - w * 2 ≡ r - (at + w * 2 - at) = omega arith in
-    masks-end layout 4 bgr row d b e at w w (at + w * 2) r (inl deep) was (p ∙ q) refl (stride ∙ ap (rowStride w) (sym deep)) room
-    (is ∙ ap (λ (z : ℕ). put b (at + w * 2) (replicate z 0)) n)
-
--- cells of 32 bits fill the stored row
-pub stored-short32 : (layout : MaskLayout) (bgr : Bool) (row : List ℕ) (w : ℕ) → layout .bpp ≡ 32 → cat (maskCell layout 4 bgr row) w ≡ storedRow (Masks 4 bgr layout) w row
-unfolding storedRow rowStride
-stored-short32 layout bgr row w deep =
-    let f = maskCell layout 4 bgr row in
-    let l : length (cat f w) ≡ w * (layout .bpp / 8) = length-cat f (layout .bpp / 8) w (λ i h. length-maskCell layout 4 bgr row (inr deep) i) in
-    let k : length (cat f w) ≡ w * (32 / 8) = l ∙ ap (λ (z : ℕ). w * (z / 8)) deep in
-    let n : (w * 32 + 31) / 32 * 4 ≡ length (cat f w) = omega arith in
-    sym (padded-full ((w * layout .bpp + 31) / 32 * 4) (cat f w) (ap (λ (z : ℕ). (w * z + 31) / 32 * 4) deep ∙ n))
+  pub room-ordered : LayoutOk l → (w at n : ℕ) → at + rowStride w (l .bpp) ≤ n → at + w * (m .bpp / 8) ≤ n
+  room-ordered k w at n h = rw (same .0) (omega (arith, cells-fit w (l .bpp) (k .depth)))
 
 -- the length of a cell
 pub length-short : (layout : MaskLayout) (bgr : Bool) (row : List ℕ) (k : ℕ) → (layout .bpp ≡ 16) ⊎ (layout .bpp ≡ 32) → layout .bpp ≡ k * 8 → (x : ℕ)
@@ -134,10 +105,5 @@ depth32 bpp (inl e) h = absurd (h e)
 depth32 bpp (inr e) h = e
 
 -- there is room for the cells
-pub room16 : (w bpp at l : ℕ) → bpp ≡ 16 → at + rowStride w bpp ≤ l → at + w * 2 ≤ l
-unfolding rowStride
-room16 w bpp at l e h = let z : w * bpp ≡ w * 16 = ap (λ (n : ℕ). w * n) e in omega arith
-
-pub room32 : (w bpp at l : ℕ) → bpp ≡ 32 → at + rowStride w bpp ≤ l → at + w * 4 ≤ l
-unfolding rowStride
-room32 w bpp at l e h = let z : w * bpp ≡ w * 32 = ap (λ (n : ℕ). w * n) e in omega arith
+pub room : (w bpp at l k : ℕ) → bpp ≡ k * 8 → at + w * (bpp / 8) ≤ l → at + w * k ≤ l
+room w bpp at l k e h = let z : bpp / 8 ≡ k = omega arith in rw z at h

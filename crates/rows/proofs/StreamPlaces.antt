@@ -36,7 +36,7 @@ module _ {ℓ} {A : Type ℓ} (f : ℕ → List A) where
       (take-append-le (length (f s)) (drop (length (cat f s)) (cat f n)) (f n) (omega (arith, length-drop (length (cat f s)) (cat f n))) ∙ h l)
 
   -- list s of the joined lists starts where those before it end
-  pub cat-place : (s h : ℕ) → s < h → take (length (f s)) (drop (length (cat f s)) (cat f h)) ≡ f s
+  cat-place : (s h : ℕ) → s < h → take (length (f s)) (drop (length (cat f s)) (cat f h)) ≡ f s
   unfolding cat
   cat-place s zero l = absurd (not-suc-le-zero l)
   cat-place s (suc n) l = place-go s n (eq-or-lt-of-le (le-of-suc-le-suc l)) (cat-place s n)

@@ -1,5 +1,5 @@
 -- Laws of the stream: its rows, its length, and a turn of the loops that count and write it.
-use mathlib.Core.Path.{_≡_, ap, _∙_}
+use mathlib.Core.Path.{_≡_, refl, ap, _∙_}
 use mathlib.Core.Bool.{Bool, false, cond}
 use mathlib.Core.List.{List, [], _∷_, _++_}
 use Prim.Native.Nat.{ℕ, suc, _+_, _-_, _*_, _≤_, _<_}
@@ -33,7 +33,7 @@ length-row d w h plane stride s = length-append (rowCodes d (sourceRow plane str
 -- the turn y of the loops that count and write a stream
 module _ (d w h : ℕ) (plane : List ℕ) (stride y : ℕ) where
   -- the part of the plane that starts at the row's offset is the row's source
-  pub part-row : take ((h - 1 - y) * stride + w - (h - 1 - y) * stride) (drop ((h - 1 - y) * stride) plane) ≡ sourceRow plane stride w (rowOf false h y)
+  part-row : take ((h - 1 - y) * stride + w - (h - 1 - y) * stride) (drop ((h - 1 - y) * stride) plane) ≡ sourceRow plane stride w (rowOf false h y)
   part-row = let k : (h - 1 - y) * stride + w - (h - 1 - y) * stride ≡ w = omega arith in rw k
 
   rows-more : length (cat (streamRow d w h plane stride) (y + 1)) ≡ length (cat (streamRow d w h plane stride) y) + (length (rowCodes d (sourceRow plane stride w (rowOf false h y))) + 2)
@@ -46,6 +46,12 @@ module _ (d w h : ℕ) (plane : List ℕ) (stride y : ℕ) where
   count-turn len n el en =
       let e : n ≡ length (rowCodes d (sourceRow plane stride w (rowOf false h y))) = en ∙ ap (λ (l : List ℕ). length (rowCodes d l)) part-row in
       omega (arith, rows-more)
+
+  -- the place after the row and its end
+  pub place-turn : (at o o′ : ℕ) → o ≡ at + length (cat (streamRow d w h plane stride) y)
+      → o′ ≡ o + length (rowCodes d (take ((h - 1 - y) * stride + w - (h - 1 - y) * stride) (drop ((h - 1 - y) * stride) plane))) + 2
+      → o′ ≡ at + length (cat (streamRow d w h plane stride) (y + 1))
+  place-turn at o o′ eo e = omega (arith, count-turn (length (cat (streamRow d w h plane stride) y)) _ refl refl)
 
   -- a row fits where the stream does
   pub row-fits : (at o n : ℕ) → y < h → o ≡ at + length (cat (streamRow d w h plane stride) y) → at + length (cat (streamRow d w h plane stride) h) ≤ n

@@ -83,11 +83,11 @@ module _ (d : ℕ) (row : List ℕ) (p : ℕ) where
         (ne-eqb (getD (cells d row) (p + 1) 0) (getD (cells d row) p 0)
         (λ e. eqb-false _ _ (f 0 (omega arith)) (ap (λ (z : ℕ). getD (cells d row) z 0) (omega arith) ∙ sym e ∙ ap (λ (z : ℕ). getD (cells d row) z 0) (omega arith)))))
 
-    pub absolute-codes : d ≤ 8 → 2 < g → length (codes d 0 (drop p (cells d row))) ≡ 2 + dataBytes d g + length (codes d 0 (drop (p + g) (cells d row)))
+    absolute-codes : d ≤ 8 → 2 < g → length (codes d 0 (drop p (cells d row))) ≡ 2 + dataBytes d g + length (codes d 0 (drop (p + g) (cells d row)))
     absolute-codes deep m =
         turn d deep row p (omega arith) (Absolute g) (block-absolute (cells d row) p 1 (getD (cells d row) p 0) run-is refl g gather-is (omega arith) m) g (2 + dataBytes d g) refl refl .split
 
-    pub single-codes : d ≤ 8 → g ≤ 2 → length (codes d 0 (drop p (cells d row))) ≡ 2 + length (codes d 0 (drop (p + 1) (cells d row)))
+    single-codes : d ≤ 8 → g ≤ 2 → length (codes d 0 (drop p (cells d row))) ≡ 2 + length (codes d 0 (drop (p + 1) (cells d row)))
     single-codes deep m =
         let w = getD (drop (p + 1) (cells d row)) 0 0 in
         turn d deep row p (omega arith) (Pair 1 (getD (cells d row) p 0) w) (block-single (cells d row) p 1 (getD (cells d row) p 0) run-is refl g gather-is (omega arith) w refl m) 1 2 refl refl .split

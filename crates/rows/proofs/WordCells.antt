@@ -1,8 +1,8 @@
 -- Laws of eight cells of a row in one number.
-use mathlib.Core.Path.{_≡_, refl, sym, ap, ap₂, _∙_}
+use mathlib.Core.Path.{_≡_, sym, ap, ap₂, _∙_}
 use mathlib.Core.Bool.{Bool, true, false, not}
 use mathlib.Core.List.{List}
-use Prim.Native.Nat.{ℕ, _+_, _-_, _/_, _^_, _<_}
+use Prim.Native.Nat.{ℕ, _+_, _-_, _*_, _/_, _^_, _<_}
 use native.Mathlib.Omega.{arith}
 use lib.Bits.{bitAnd, bitOr, bitXor, and-mask, xor-mod, xor-lt, xor-comm}
 use lib.Count.{trailingZeros}
@@ -11,11 +11,16 @@ use lib.ListN.{getD}
 use Rattle.rows.specs.RleCodes.{depthOf, cells}
 use Rattle.rows.specs.Words.{word, leading}
 use Rattle.rows.proofs.Scans.{cell-at}
-use Rattle.rows.proofs.WordLaws.{leading-ext, word-ext, word-moved, word-next, word-and, word-xor, xor-test, zero-bytes-8, lone-bytes-8}
+use Rattle.rows.proofs.WordLaws.{leading-ext, word-ext, word-next, word-and, word-xor, xor-test, zero-bytes-8, lone-bytes-8}
 
-mask-small : (four : Bool) → 2 ^ depthOf four - 1 < 256
+pub mask-small : (four : Bool) → 2 ^ depthOf four - 1 < 256
 mask-small true = lit< tt
 mask-small false = lit< tt
+
+-- one byte, eight times over
+eight-times : (m k : ℕ) → m * 0x0101010101010101 ≡ word (λ _. m) k 8
+unfolding word
+eight-times m k = omega arith
 
 -- where the cells from a place on differ from the next, as a number
 module _ (row : List ℕ) (k : ℕ) (h : (i : ℕ) → getD row i 0 < 256) where
@@ -24,12 +29,12 @@ module _ (row : List ℕ) (k : ℕ) (h : (i : ℕ) → getD row i 0 < 256) where
       ap (bitXor (word (λ i. getD row i 0) k 8)) (word-next (λ i. getD row i 0) k 8)
       ∙ word-xor (λ i. getD row i 0) (λ i. getD row (i + 1) 0) h (λ i. h (i + 1)) k 8
 
-  pub differ : (four : Bool) (x y m : ℕ) → x ≡ word (λ i. getD row i 0) k 8 → y ≡ word (λ i. getD row i 0) (k + 1) 8 → m ≡ word (λ _. 2 ^ depthOf four - 1) 0 8
-      → bitAnd (bitXor x y) m ≡ word (λ i. bitXor (getD (cells (depthOf four) row) i 0) (getD (cells (depthOf four) row) (i + 1) 0)) k 8
+  pub differ : (four : Bool) (x y m : ℕ) → x ≡ word (λ i. getD row i 0) k 8 → y ≡ word (λ i. getD row i 0) (k + 1) 8 → m ≡ 2 ^ depthOf four - 1
+      → bitAnd (bitXor x y) (m * 0x0101010101010101) ≡ word (λ i. bitXor (getD (cells (depthOf four) row) i 0) (getD (cells (depthOf four) row) (i + 1) 0)) k 8
   differ four x y m ex ey em =
       let d = depthOf four in
       let f : ℕ → ℕ = λ i. bitXor (getD row i 0) (getD row (i + 1) 0) in
-      ap₂ bitAnd (ap₂ bitXor ex ey ∙ raw) (em ∙ word-moved (λ _. 2 ^ d - 1) (λ _. 2 ^ d - 1) 8 0 k (λ i l. refl))
+      ap₂ bitAnd (ap₂ bitXor ex ey ∙ raw) (ap (λ (z : ℕ). z * 0x0101010101010101) em ∙ eight-times (2 ^ d - 1) k)
       ∙ word-and f (λ _. 2 ^ d - 1) (λ i. xor-lt 8 (getD row i 0) (getD row (i + 1) 0) (h i) (h (i + 1))) (λ i. mask-small four) k 8
       ∙ word-ext _ _ (λ i. and-mask (f i) d ∙ xor-mod (getD row i 0) (getD row (i + 1) 0) d ∙ ap₂ bitXor (sym (cell-at d row i)) (sym (cell-at d row (i + 1)))) k 8
 

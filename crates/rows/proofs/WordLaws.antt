@@ -80,27 +80,27 @@ module _ (f : ℕ → ℕ) (k a b : ℕ) where
       rw p (omega arith)
 
 -- numbers are taken together byte by byte
-module _ (f g : ℕ → ℕ) where
-  pub word-add : (k n : ℕ) → word f k n + word g k n ≡ word (λ i. f i + g i) k n
+word-add : (f g : ℕ → ℕ) (k n : ℕ) → word f k n + word g k n ≡ word (λ i. f i + g i) k n
+unfolding word
+word-add f g k zero = refl
+word-add f g k (suc n) = omega (arith, word-add f g (k + 1) n)
+
+-- so by any operation that works on each digit apart
+module _ (f g : ℕ → ℕ) (hf : (i : ℕ) → f i < 256) (hg : (i : ℕ) → g i < 256) where
+  word-op : (op : ℕ → ℕ → ℕ) → op 0 0 ≡ 0 → ((a b r s : ℕ) → r < 256 → s < 256 → op (a * 256 + r) (b * 256 + s) ≡ op a b * 256 + op r s)
+      → (k n : ℕ) → op (word f k n) (word g k n) ≡ word (λ i. op (f i) (g i)) k n
   unfolding word
-  word-add k zero = refl
-  word-add k (suc n) = omega (arith, word-add (k + 1) n)
+  word-op op none block k zero = none
+  word-op op none block k (suc n) = block (word f (k + 1) n) (word g (k + 1) n) (f k) (g k) (hf k) (hg k) ∙ ap (λ (z : ℕ). z * 256 + op (f k) (g k)) (word-op op none block (k + 1) n)
 
-  module _ (hf : (i : ℕ) → f i < 256) (hg : (i : ℕ) → g i < 256) where
-    pub word-and : (k n : ℕ) → bitAnd (word f k n) (word g k n) ≡ word (λ i. bitAnd (f i) (g i)) k n
-    unfolding word
-    word-and k zero = refl
-    word-and k (suc n) = and-block 8 (word f (k + 1) n) (word g (k + 1) n) (f k) (g k) (hf k) (hg k) ∙ ap (λ (z : ℕ). z * 256 + bitAnd (f k) (g k)) (word-and (k + 1) n)
+  pub word-and : (k n : ℕ) → bitAnd (word f k n) (word g k n) ≡ word (λ i. bitAnd (f i) (g i)) k n
+  word-and = word-op bitAnd refl (and-block 8)
 
-    pub word-or : (k n : ℕ) → bitOr (word f k n) (word g k n) ≡ word (λ i. bitOr (f i) (g i)) k n
-    unfolding word
-    word-or k zero = refl
-    word-or k (suc n) = or-block 8 (word f (k + 1) n) (word g (k + 1) n) (f k) (g k) (hf k) (hg k) ∙ ap (λ (z : ℕ). z * 256 + bitOr (f k) (g k)) (word-or (k + 1) n)
+  word-or : (k n : ℕ) → bitOr (word f k n) (word g k n) ≡ word (λ i. bitOr (f i) (g i)) k n
+  word-or = word-op bitOr refl (or-block 8)
 
-    pub word-xor : (k n : ℕ) → bitXor (word f k n) (word g k n) ≡ word (λ i. bitXor (f i) (g i)) k n
-    unfolding word
-    word-xor k zero = refl
-    word-xor k (suc n) = xor-block 8 (word f (k + 1) n) (word g (k + 1) n) (f k) (g k) (hf k) (hg k) ∙ ap (λ (z : ℕ). z * 256 + bitXor (f k) (g k)) (word-xor (k + 1) n)
+  pub word-xor : (k n : ℕ) → bitXor (word f k n) (word g k n) ≡ word (λ i. bitXor (f i) (g i)) k n
+  word-xor = word-op bitXor refl (xor-block 8)
 
 -- bytes that are equal, and only they, have nothing that differs
 xor-none : (a b : ℕ) → bitXor a b ≡ 0 → a ≡ b

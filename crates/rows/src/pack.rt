@@ -4,10 +4,10 @@ ghost use mathlib.Core.Path.{_≡_};
 ghost use mathlib.Core.Bool.{true, false, cond};
 ghost use mathlib.Core.List.{[], _∷_, _++_};
 ghost use mathlib.Core.Logic.{_⊎_};
-ghost use Prim.Native.Nat.{_+_, _*_, _%_, _^_, _<_, _≤_};
+ghost use Prim.Native.Nat.{_+_, _*_, _/_, _%_, _^_, _<_, _≤_};
 ghost use lib.Dec.{eqb};
 ghost use lib.ListN.{length, getD};
-ghost use Rattle.leaves.specs.Bytes.{le32};
+ghost use Rattle.leaves.specs.Bytes.{le16, le32};
 ghost use Rattle.leaves.specs.Lists.{tab, cat};
 ghost use Rattle.leaves.specs.Masks.{ShiftLen};
 ghost use Rattle.leaves.specs.Put.{put};
@@ -192,14 +192,6 @@ fn exchanged(word: u32) -> u32
     word / 65536 % 256 + word / 256 % 256 * 256 + word % 256 * 65536 + word / 16777216 * 16777216
 }
 
-// The word of the stored cell of pixel x of a row with red first.
-fn cell_word32(src: &[u8], x: usize) -> u32
-    requires { ⌜ x * 4 + 4 ≤ length (now src) ⌝ }
-    ensures { λ r. ⌜ le32 r ≡ cell32 false (now (src .entry)) x ⌝ }
-{
-    exchanged(pixel_word(src, x))
-}
-
 // The 32-bit cells of a row with red first.
 fn exchange32(src: &[u8], width: u32, dst: &mut [u8], at: usize)
     requires { ⌜ length (now src) ≡ width * 4 ⌝ }
@@ -209,7 +201,7 @@ fn exchange32(src: &[u8], width: u32, dst: &mut [u8], at: usize)
     let w = width as usize;
     let mut x = 0;
     while x < w {
-        let word = cell_word32(src, x);
+        let word = exchanged(pixel_word(src, x));
         put_u32(dst, at + x * 4, word);
         x += 1;
     }
@@ -222,6 +214,18 @@ fn cell_word24(src: &[u8], x: usize) -> u32
 {
     let s = x * 3;
     word_of(src[s + 2], src[s + 1], src[s], 0)
+}
+
+// The stored cell of pixel x of a row with red first.
+fn exchange_cell(src: &[u8], x: usize, dst: &mut [u8], at: usize)
+    requires { ⌜ x * 3 + 3 ≤ length (now src) ⌝ }
+    requires { ⌜ at + 3 ≤ length (now dst) ⌝ }
+    ensures { λ _. ⌜ now (dst .exit) ≡ put (now (dst .entry)) at (cell24 false (now (src .entry)) x) ⌝ }
+{
+    let s = x * 3;
+    dst[at] = src[s + 2];
+    dst[at + 1] = src[s + 1];
+    dst[at + 2] = src[s];
 }
 
 // All ones at the wanted place, and none at others.
@@ -276,9 +280,7 @@ fn exchange_most(src: &[u8], width: u32, dst: &mut [u8], at: usize) -> usize
     if w == 0 {
         return 0;
     }
-    dst[at] = src[2];
-    dst[at + 1] = src[1];
-    dst[at + 2] = src[0];
+    exchange_cell(src, 0, dst, at);
     let mut x = 1;
     while w - x > 16 {
         let i = x * 3;
@@ -305,11 +307,7 @@ fn exchange24(src: &[u8], width: u32, dst: &mut [u8], at: usize)
     if x == w {
         return;
     }
-    let s = x * 3;
-    let o = at + s;
-    dst[o] = src[s + 2];
-    dst[o + 1] = src[s + 1];
-    dst[o + 2] = src[s];
+    exchange_cell(src, x, dst, at + x * 3);
 }
 
 // 24-bit cells: blue, green, red.
@@ -372,6 +370,19 @@ fn longer(a: u32, b: u32) -> u32
     a
 }
 
+// Stores a word as a cell of 16 or 32 bits.
+fn put_cell(bpp: u16, word: u32, dst: &mut [u8], at: usize)
+    requires { ⌜ (bpp ≡ 16) ⊎ (bpp ≡ 32) ⌝ }
+    requires { ⌜ at + bpp / 8 ≤ length (now dst) ⌝ }
+    ensures { λ _. ⌜ now (dst .exit) ≡ put (now (dst .entry)) at (cond (eqb bpp 16) (le16 word) (le32 word)) ⌝ }
+{
+    if bpp == 16 {
+        put_u16(dst, at, (word % 65536) as u16);
+        return;
+    }
+    put_u32(dst, at, word);
+}
+
 impl MaskLayout {
     pub fn new(bpp: u16, masks: [u32; 4]) -> Self
         ensures { λ r. ⌜
@@ -389,58 +400,53 @@ impl MaskLayout {
         MaskLayout { bpp, r, g, b, a }
     }
 
-    // The word of pixel x of a source row.
-    fn word(self, src: &[u8], in_bpp: usize, bgr: bool, x: usize) -> u32
+    // The word of pixel x of a row with red first.
+    fn word(self, src: &[u8], in_bpp: usize, x: usize) -> u32
         requires { ⌜ LayoutOk self ⌝ }
         requires { ⌜ («in_bpp» ≡ 3) ⊎ («in_bpp» ≡ 4) ⌝ }
         requires { ⌜ x * «in_bpp» + «in_bpp» ≤ length (now src) ⌝ }
-        ensures { λ r. ⌜ r ≡ maskWord self «in_bpp» bgr (now (src .entry)) x ⌝ }
+        ensures { λ r. ⌜ r ≡ maskWord self «in_bpp» false (now (src .entry)) x ⌝ }
     {
         let s = x * in_bpp;
-        let red: usize = if bgr { 2 } else { 0 };
-        let blue: usize = 2 - red;
         let alpha = if in_bpp == 4 { src[s + 3] } else { 255 };
-        let r = mask_field(self.r, src[s + red]);
+        let r = mask_field(self.r, src[s]);
         let g = mask_field(self.g, src[s + 1]);
-        let b = mask_field(self.b, src[s + blue]);
+        let b = mask_field(self.b, src[s + 2]);
         let a = mask_field(self.a, alpha);
         r | g | b | a
     }
 
-    // Cells of 16 or 32 bits, for channels of any length.
-    fn pack_long(self, src: &[u8], in_bpp: usize, bgr: bool, width: u32, dst: &mut [u8], at: usize)
+    // The cells of a row with red first, for channels of any length.
+    fn long_cells(self, src: &[u8], in_bpp: usize, width: u32, dst: &mut [u8], at: usize)
         requires { ⌜ LayoutOk self ⌝ }
         requires { ⌜ («in_bpp» ≡ 3) ⊎ («in_bpp» ≡ 4) ⌝ }
         requires { ⌜ length (now src) ≡ width * «in_bpp» ⌝ }
-        requires { ⌜ at + rowStride width (self .bpp) ≤ length (now dst) ⌝ }
-        ensures { λ _. ⌜ now (dst .exit) ≡ put (now (dst .entry)) at (storedRow (Masks «in_bpp» bgr self) width (now (src .entry))) ⌝ }
+        requires { ⌜ at + width * (self .bpp / 8) ≤ length (now dst) ⌝ }
+        ensures { λ _. ⌜ now (dst .exit) ≡ put (now (dst .entry)) at (cat (maskCell self «in_bpp» false (now (src .entry))) width) ⌝ }
     {
         let w = width as usize;
         let bpp = self.bpp;
-        let mut o = at;
+        let size = bpp as usize / 8;
         let mut x = 0;
         while x < w {
-            let word = self.word(src, in_bpp, bgr, x);
-            if bpp == 16 {
-                put_u16(dst, o, (word % 65536) as u16);
-                o += 2;
-            } else {
-                put_u32(dst, o, word);
-                o += 4;
-            }
+            let word = self.word(src, in_bpp, x);
+            put_cell(bpp, word, dst, at + x * size);
             x += 1;
         }
-        put_zeros(dst, o, row_stride(width, bpp) - (o - at));
     }
 
-    // The length of the longest channel.
-    fn longest(self) -> u32
-        ensures { λ r. ⌜ (self .r .len ≤ r) × (self .g .len ≤ r) × (self .b .len ≤ r) × (self .a .len ≤ r) ⌝ }
+    // Whether pixels of so many bytes have alpha, and each channel has at most 16 bits.
+    fn is_short(self, in_bpp: usize) -> bool
+        ensures { λ r. ⌜ (r ≡ true → («in_bpp» ≡ 4) × ShortOk self) ⌝ }
     {
+        if in_bpp != 4 {
+            return false;
+        }
         longer(
             longer(self.r.len, self.g.len),
             longer(self.b.len, self.a.len),
         )
+            <= 16
     }
 
     // The layout with which pixels of this order are packed as if red came first.
@@ -453,12 +459,12 @@ impl MaskLayout {
             × (r .a ≡ self .a)
             ⌝ }
     {
-        let bpp = self.bpp;
-        let r = self.r;
-        let g = self.g;
-        let b = self.b;
-        let a = self.a;
         if bgr {
+            let bpp = self.bpp;
+            let r = self.r;
+            let g = self.g;
+            let b = self.b;
+            let a = self.a;
             return MaskLayout {
                 bpp,
                 r: b,
@@ -467,7 +473,7 @@ impl MaskLayout {
                 a,
             };
         }
-        MaskLayout { bpp, r, g, b, a }
+        self
     }
 
     // The word of a pixel of 4 bytes, red first, from the word of its bytes.
@@ -529,22 +535,19 @@ impl MaskLayout {
         }
     }
 
-    // Cells of pixels of 4 bytes, where each channel has at most 16 bits.
-    fn pack_short(self, src: &[u8], bgr: bool, width: u32, dst: &mut [u8], at: usize)
+    // The cells of a row of pixels of 4 bytes, red first, where each channel has at most 16 bits.
+    fn short_cells(self, src: &[u8], width: u32, dst: &mut [u8], at: usize)
         requires { ⌜ LayoutOk self ⌝ }
         requires { ⌜ ShortOk self ⌝ }
         requires { ⌜ length (now src) ≡ width * 4 ⌝ }
-        requires { ⌜ at + rowStride width (self .bpp) ≤ length (now dst) ⌝ }
-        ensures { λ _. ⌜ now (dst .exit) ≡ put (now (dst .entry)) at (storedRow (Masks 4 bgr self) width (now (src .entry))) ⌝ }
+        requires { ⌜ at + width * (self .bpp / 8) ≤ length (now dst) ⌝ }
+        ensures { λ _. ⌜ now (dst .exit) ≡ put (now (dst .entry)) at (cat (maskCell self 4 false (now (src .entry))) width) ⌝ }
     {
-        let layout = self.ordered(bgr);
         if self.bpp == 16 {
-            layout.short_cells16(src, width, dst, at);
-            let filled = width as usize * 2;
-            put_zeros(dst, at + filled, row_stride(width, 16) - filled);
+            self.short_cells16(src, width, dst, at);
             return;
         }
-        layout.short_cells32(src, width, dst, at);
+        self.short_cells32(src, width, dst, at);
     }
 
     // Cells of 16 or 32 bits, fitted to masks.
@@ -555,14 +558,14 @@ impl MaskLayout {
         requires { ⌜ at + rowStride width (self .bpp) ≤ length (now dst) ⌝ }
         ensures { λ _. ⌜ now (dst .exit) ≡ put (now (dst .entry)) at (storedRow (Masks «in_bpp» bgr self) width (now (src .entry))) ⌝ }
     {
-        if in_bpp == 4 {
-            let longest = self.longest();
-            if longest <= 16 {
-                self.pack_short(src, bgr, width, dst, at);
-                return;
-            }
+        let layout = self.ordered(bgr);
+        if layout.is_short(in_bpp) {
+            layout.short_cells(src, width, dst, at);
+        } else {
+            layout.long_cells(src, in_bpp, width, dst, at);
         }
-        self.pack_long(src, in_bpp, bgr, width, dst, at);
+        let filled = width as usize * (self.bpp as usize / 8);
+        put_zeros(dst, at + filled, row_stride(width, self.bpp) - filled);
     }
 }
 

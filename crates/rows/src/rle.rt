@@ -90,22 +90,12 @@ fn cell(row: &[u8], k: usize, four: bool) -> usize
     row[k] as usize & cell_mask(four)
 }
 
-// The bits of eight cells.
-fn cell_masks(four: bool) -> u64
-    ensures { λ r. ⌜ r ≡ word (λ _. 2 ^ depthOf four - 1) 0 8 ⌝ }
-{
-    if four {
-        return 0x0F0F0F0F0F0F0F0F;
-    }
-    0xFFFFFFFFFFFFFFFF
-}
-
 // Eight bytes, each 0 where a cell from `k` on is the same as the next.
 fn differences(row: &[u8], k: usize, four: bool) -> u64
     requires { ⌜ k + 8 < length (now row) ⌝ }
     ensures { λ r. ⌜ r ≡ word (λ i. bitXor (getD (cells (depthOf four) (now (row .entry))) i 0) (getD (cells (depthOf four) (now (row .entry))) (i + 1) 0)) k 8 ⌝ }
 {
-    (le64(row, k) ^ le64(row, k + 1)) & cell_masks(four)
+    (le64(row, k) ^ le64(row, k + 1)) & (cell_mask(four) as u64 * 0x0101010101010101)
 }
 
 // How many of the eight cells after `k` are the same as the one before, up to the first that is not.
@@ -187,11 +177,12 @@ fn block_from(row: &[u8], at: usize, four: bool, v: usize, run: usize) -> Block
     if 2 < gathered {
         return Block::Absolute(gathered);
     }
-    if at + 1 < row.len() {
-        let w = cell(row, at + 1, four);
-        return Block::Pair(1, v, w);
-    }
-    Block::Pair(1, v, 0)
+    let w = if at + 1 < row.len() {
+        cell(row, at + 1, four)
+    } else {
+        0
+    };
+    Block::Pair(1, v, w)
 }
 
 // Data bytes of an absolute block of n cells.
@@ -228,12 +219,11 @@ impl Block {
     }
 }
 
-// How many equal cells start at `at`, at most 255: eight at a time as far as they fit.
-fn run_length(row: &[u8], at: usize, four: bool) -> usize
-    requires { ⌜ at < length (now row) ⌝ }
+// How many cells equal to `v` start at `at`, the first of which is one, at most 255: eight at a time as far as they fit.
+fn run_length(row: &[u8], at: usize, four: bool, v: usize) -> usize
+    requires { ⌜ (at < length (now row)) × (v ≡ getD (cells (depthOf four) (now row)) at 0) ⌝ }
     ensures { λ r. ⌜ r ≡ runLength (getD (cells (depthOf four) (now (row .entry))) at 0) (drop (at + 1) (cells (depthOf four) (now (row .entry)))) ⌝ }
 {
-    let v = cell(row, at, four);
     let most = most_cells(row.len() - at);
     let mut count: usize = 1;
     loop {
@@ -256,28 +246,20 @@ fn run_length(row: &[u8], at: usize, four: bool) -> usize
     }
 }
 
-// The block that starts at `at`.
-fn block_at(row: &[u8], at: usize, four: bool) -> Block
-    requires { ⌜ at < length (now row) ⌝ }
-    ensures { λ r. ⌜ r ≡ blockAt (cells (depthOf four) (now (row .entry))) at ⌝ }
-{
-    let v = cell(row, at, four);
-    let run = run_length(row, at, four);
-    block_from(row, at, four, v, run)
-}
-
 // Whole blocks: their bytes, and how many cells they code.
 struct Coded {
     bytes: usize,
     cells: usize,
 }
 
-// The block at `at`.
+// The block that starts at `at`.
 fn one_block(row: &[u8], at: usize, four: bool) -> Coded
     requires { ⌜ at < length (now row) ⌝ }
     ensures { λ r. ⌜ Coding (depthOf four) (now (row .entry)) at (r .cells) (r .bytes) ⌝ }
 {
-    let b = block_at(row, at, four);
+    let v = cell(row, at, four);
+    let run = run_length(row, at, four, v);
+    let b = block_from(row, at, four, v, run);
     let bytes = b.len(four);
     let cells = b.width();
     Coded { bytes, cells }
@@ -302,20 +284,13 @@ fn blocks_at(row: &[u8], at: usize, four: bool) -> Coded
     requires { ⌜ at < length (now row) ⌝ }
     ensures { λ r. ⌜ Coding (depthOf four) (now (row .entry)) at (r .cells) (r .bytes) ⌝ }
 {
-    if four {
-        return one_block(row, at, four);
+    if !four && 65 <= row.len() && at + 2 <= row.len() {
+        let blocks = window_blocks(row, at);
+        if blocks.cells != 0 {
+            return blocks;
+        }
     }
-    if row.len() < 65 {
-        return one_block(row, at, four);
-    }
-    if row.len() - at < 2 {
-        return one_block(row, at, four);
-    }
-    let blocks = window_blocks(row, at);
-    if blocks.cells == 0 {
-        return one_block(row, at, four);
-    }
-    blocks
+    one_block(row, at, four)
 }
 
 // How many bytes a row's codes take.
@@ -353,11 +328,12 @@ fn put_data(row: &[u8], i: usize, n: usize, four: bool, buf: &mut [u8], at: usiz
 {
     let len = data_bytes(n, four);
     let end = i + n;
+    let data = &row[i..end];
     if four {
-        pack_bytes(&row[i..end], 4, len, buf, at);
+        pack_bytes(data, 4, len, buf, at);
         return at + len;
     }
-    put_slice(buf, at, &row[i..end]);
+    put_slice(buf, at, data);
     if n < len {
         buf[at + n] = 0;
     }

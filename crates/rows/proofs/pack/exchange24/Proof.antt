@@ -1,14 +1,13 @@
-use mathlib.Core.Path.{_≡_, refl, sym, ap, _∙_}
+use mathlib.Core.Path.{_≡_, refl, ap, _∙_}
 use mathlib.Core.Bool.{false}
 use mathlib.Core.List.{[], _∷_}
 use Prim.Native.Nat.{_+_, _-_, _*_, _≤_}
 use native.Mathlib.Omega.{arith}
-use lib.ListN.{length, getD, length-set}
+use lib.ListN.{length}
 use Rattle.leaves.specs.Put.{put}
 use Rattle.rows.specs.StoredRows.{cell24}
-use Rattle.rows.proofs.PackLaws.{stores3}
-use Rattle.rows.proofs.Cells.{length-cell24, exchanged-cell24, finished, one-cell, cell-and-more, no-cell}
-use Rattle.rows.proofs.Exchanges.{cells-left}
+use Rattle.rows.proofs.Cells.{length-cell24, finished, cell-and-more}
+use Rattle.rows.proofs.Exchanges.{all-exchanged, last-exchanged}
 use Rattle.rows.proofs.pack.exchange24.Statement.{statement}
 use Rattle.rows.proofs.pack.exchange24.Tie as tie
 
@@ -66,62 +65,27 @@ returns c =
     let l = c .before .before .loop in
     let a = c .before .before .before .before .before .before .before .before .before .args in
     let m = c .before .before .before .before .before .exchange-most in
-    sym (no-cell (cell24 false (a .src .now)) 3 (length-cell24 false (a .src .now)) (a .width) (l .x) (a .at) (l .dst) (omega arith))
-    ∙ l .inv .2
-    ∙ cells-left (a .src .now) (a .dst .now) (m .last .1 .1 .0) (a .at) (m .result) (a .width) (m .ensures .0) (omega arith) (m .ensures .1)
+    all-exchanged (a .src .now) (a .dst .now) (m .last .1 .1 .0) (l .dst) (a .at) (m .result) (l .x) (a .width) (m .ensures .0) (omega arith) (m .ensures .1) (l .inv .2) (omega arith)
 
-mul-s : tie.Need-mul-s Inv-loop μ-loop
-mul-s c = omega arith
+mul-exchange-cell : tie.Need-mul-exchange-cell Inv-loop μ-loop
+mul-exchange-cell c = omega arith
 
-add-o : tie.Need-add-o Inv-loop μ-loop
-add-o c = omega arith
+add-exchange-cell : tie.Need-add-exchange-cell Inv-loop μ-loop
+add-exchange-cell c = omega arith
 
-add-dst : tie.Need-add-dst Inv-loop μ-loop
-add-dst c = omega arith
-
-shared-slice-read-dst : tie.Need-shared-slice-read-dst Inv-loop μ-loop
-shared-slice-read-dst c = omega arith
-
-slice-write-dst : tie.Need-slice-write-dst Inv-loop μ-loop
-slice-write-dst c = omega arith
-
-add-dst-2 : tie.Need-add-dst-2 Inv-loop μ-loop
-add-dst-2 c = omega arith
-
-shared-slice-read-dst-2 : tie.Need-shared-slice-read-dst-2 Inv-loop μ-loop
-shared-slice-read-dst-2 c = omega arith
-
-add-dst-3 : tie.Need-add-dst-3 Inv-loop μ-loop
-add-dst-3 c = omega arith
-
-slice-write-dst-2 : tie.Need-slice-write-dst-2 Inv-loop μ-loop
-slice-write-dst-2 c = simp length-set (omega arith)
-
-shared-slice-read-dst-3 : tie.Need-shared-slice-read-dst-3 Inv-loop μ-loop
-shared-slice-read-dst-3 c = omega arith
-
-add-dst-4 : tie.Need-add-dst-4 Inv-loop μ-loop
-add-dst-4 c = omega arith
-
-slice-write-dst-3 : tie.Need-slice-write-dst-3 Inv-loop μ-loop
-slice-write-dst-3 c = simp length-set (omega arith)
+exchange-cell-requires : tie.Need-exchange-cell-requires Inv-loop μ-loop
+exchange-cell-requires c κs = (omega arith, omega arith)
 
 same-length-2 : tie.Need-same-length-2 Inv-loop μ-loop
-same-length-2 c = simp length-set (omega arith)
+same-length-2 c = omega arith
 
 returns-2 : tie.Need-returns-2 Inv-loop μ-loop
 returns-2 c =
-    let l = c .before .before .before .before .before .loop in
-    let a = c .before .before .before .before .before .before .before .before .before .before .before .before .args in
-    let m = c .before .before .before .before .before .before .before .before .exchange-most in
-    let f = cell24 false (a .src .now) in
-    let s = l .x * 3 in
-    sym (no-cell f 3 (length-cell24 false (a .src .now)) (a .width) (l .x + 1) (a .at) _ (omega arith))
-    ∙ one-cell f 3 (length-cell24 false (a .src .now)) (a .width) (l .x) (a .at + s) (a .at) (l .dst) _ (omega arith) (omega arith) refl
-    (stores3 (l .dst) (a .at + s) (getD (a .src .now) (s + 2) 0) (getD (a .src .now) (s + 1) 0) (getD (a .src .now) s 0) (omega arith)
-    ∙ ap (put (l .dst) (a .at + s)) (exchanged-cell24 (a .src .now) (l .x)))
-    ∙ l .inv .2
-    ∙ cells-left (a .src .now) (a .dst .now) (m .last .1 .1 .0) (a .at) (m .result) (a .width) (m .ensures .0) (omega arith) (m .ensures .1)
+    let l = c .before .before .before .before .before .before .loop in
+    let a = c .before .before .before .before .before .before .before .before .before .before .before .before .before .args in
+    let m = c .before .before .before .before .before .before .before .before .before .exchange-most in
+    let e = c .before .before .exchange-cell in
+    last-exchanged (a .src .now) (a .dst .now) (m .last .1 .1 .0) (l .dst) (a .at) (m .result) (l .x) (a .width) (m .ensures .0) (omega arith) (m .ensures .1) (l .inv .2) (e .last .1 .1 .0) (omega arith) (omega arith) (omega arith) (e .ensures)
 
 pub exchange24-spec : {M : Type 1} → statement M
 exchange24-spec =
@@ -141,17 +105,8 @@ exchange24-spec =
     loop-again
     same-length
     returns
-    mul-s
-    add-o
-    add-dst
-    shared-slice-read-dst
-    slice-write-dst
-    add-dst-2
-    shared-slice-read-dst-2
-    add-dst-3
-    slice-write-dst-2
-    shared-slice-read-dst-3
-    add-dst-4
-    slice-write-dst-3
+    mul-exchange-cell
+    add-exchange-cell
+    exchange-cell-requires
     same-length-2
     returns-2)

@@ -1,12 +1,12 @@
 use mathlib.Core.Path.{_≡_, refl, sym, ap, _∙_}
-use Prim.Native.Nat.{_-_, _≤_}
+use Prim.Native.Nat.{_+_, _-_, _*_, _≤_}
 use native.Mathlib.Omega.{arith}
 use lib.ListN.{length}
 use mathlib.Core.Bool.{false}
 use Rattle.leaves.specs.Lists.{cat}
 use Rattle.leaves.specs.Put.{put}
 use Rattle.rows.specs.StoredRows.{cell32}
-use Rattle.rows.proofs.Cells.{length-cell32, finished, all-cells, one-cell, no-cell}
+use Rattle.rows.proofs.Cells.{exchange-pixel, length-cell32, finished, all-cells, one-cell, no-cell}
 use Rattle.rows.proofs.pack.exchange32.Statement.{statement}
 use Rattle.rows.proofs.pack.exchange32.Tie as tie
 
@@ -20,8 +20,11 @@ abbrev μ-loop : tie.MeasureT-loop
 loop-holds : tie.Need-loop-holds Inv-loop μ-loop
 loop-holds c = let a = c .before .before .args in (omega arith, refl, all-cells (cell32 false (a .src .now)) 4 (a .width) (a .at) (a .dst .now))
 
-cell-word32-requires : tie.Need-cell-word32-requires Inv-loop μ-loop
-cell-word32-requires c κs = omega arith
+pixel-word-requires : tie.Need-pixel-word-requires Inv-loop μ-loop
+pixel-word-requires c κs = omega arith
+
+exchanged-requires : tie.Need-exchanged-requires Inv-loop μ-loop
+exchanged-requires c κs = tt
 
 mul-put-u32 : tie.Need-mul-put-u32 Inv-loop μ-loop
 mul-put-u32 c = omega arith
@@ -40,13 +43,16 @@ loop-less c = omega arith
 
 loop-again : tie.Need-loop-again Inv-loop μ-loop
 loop-again c =
-    let l = c .before .before .before .before .before .before .loop in
-    let a = c .before .before .before .before .before .before .before .before .before .args in
+    let l = c .before .before .before .before .before .before .before .loop in
+    let a = c .before .before .before .before .before .before .before .before .before .before .args in
+    let o = a .at + l .x * 4 in
+    let w = c .before .before .before .before .before .pixel-word in
+    let e = c .before .before .before .before .exchanged in
     let p = c .before .before .put-u32 in (
       omega arith,
       omega arith,
-      one-cell (cell32 false (a .src .now)) 4 (length-cell32 false (a .src .now)) (a .width) (l .x) _ (a .at) (l .dst) (p .last .0) (omega arith) (omega arith) refl
-          (p .ensures ∙ ap (put (l .dst) _) (c .before .before .before .before .cell-word32 .ensures))
+      one-cell (cell32 false (a .src .now)) 4 (length-cell32 false (a .src .now)) (a .width) (l .x) o (a .at) (l .dst) (p .last .0) (omega arith) (omega arith) refl
+          (p .ensures ∙ ap (put (l .dst) o) (exchange-pixel (a .src .now) (l .x) (w .result) (e .result) (w .ensures) (e .ensures)))
           ∙ l .inv .2,
     )
 
@@ -66,7 +72,8 @@ exchange32-spec =
     Inv-loop
     μ-loop
     loop-holds
-    cell-word32-requires
+    pixel-word-requires
+    exchanged-requires
     mul-put-u32
     add-put-u32
     put-u32-requires

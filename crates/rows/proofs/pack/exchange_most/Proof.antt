@@ -1,16 +1,14 @@
-use mathlib.Core.Path.{_≡_, refl, ap, _∙_}
+use mathlib.Core.Path.{_≡_, refl}
 use mathlib.Core.Bool.{false}
 use mathlib.Core.List.{List}
 use Prim.Native.Nat.{ℕ, _+_, _-_, _*_, _≤_}
 use native.Mathlib.Omega.{arith}
-use lib.ListN.{length, getD, length-set}
+use lib.ListN.{length}
 use Rattle.leaves.specs.Lists.{cat}
 use Rattle.leaves.specs.Put.{put}
 use Rattle.rows.specs.StoredRows.{cell24}
-use Rattle.rows.proofs.PackLaws.{stores3}
-use Rattle.rows.proofs.Cells.{exchanged-cell24}
 use Rattle.rows.proofs.MaskCells.{no-cells}
-use Rattle.rows.proofs.Exchanges.{first-cell, sixteen-cells, length-stores}
+use Rattle.rows.proofs.Exchanges.{first-cell, sixteen-cells}
 use Rattle.rows.proofs.pack.exchange_most.Statement.{statement}
 use Rattle.rows.proofs.pack.exchange_most.Tie as tie
 
@@ -30,29 +28,8 @@ returns c =
     let a = c .before .before .before .args in
     (omega arith, no-cells (cell24 false (a .src .now)) (a .dst .now) (a .at))
 
-shared-slice-read-dst : tie.Need-shared-slice-read-dst Inv-loop μ-loop
-shared-slice-read-dst c = omega arith
-
-slice-write-dst : tie.Need-slice-write-dst Inv-loop μ-loop
-slice-write-dst c = omega arith
-
-shared-slice-read-dst-2 : tie.Need-shared-slice-read-dst-2 Inv-loop μ-loop
-shared-slice-read-dst-2 c = omega arith
-
-add-dst : tie.Need-add-dst Inv-loop μ-loop
-add-dst c = omega arith
-
-slice-write-dst-2 : tie.Need-slice-write-dst-2 Inv-loop μ-loop
-slice-write-dst-2 c = simp length-set (omega arith)
-
-shared-slice-read-dst-3 : tie.Need-shared-slice-read-dst-3 Inv-loop μ-loop
-shared-slice-read-dst-3 c = omega arith
-
-add-dst-2 : tie.Need-add-dst-2 Inv-loop μ-loop
-add-dst-2 c = omega arith
-
-slice-write-dst-3 : tie.Need-slice-write-dst-3 Inv-loop μ-loop
-slice-write-dst-3 c = simp length-set (omega arith)
+exchange-cell-requires : tie.Need-exchange-cell-requires Inv-loop μ-loop
+exchange-cell-requires c κs = (omega arith, omega arith)
 
 loop-holds : tie.Need-loop-holds Inv-loop μ-loop
 loop-holds c = (omega arith, omega arith, refl, λ d room e. e)
@@ -67,11 +44,7 @@ add-exchange-sixteen : tie.Need-add-exchange-sixteen Inv-loop μ-loop
 add-exchange-sixteen c = omega arith
 
 exchange-sixteen-requires : tie.Need-exchange-sixteen-requires Inv-loop μ-loop
-exchange-sixteen-requires c κs =
-    let a = c .before .before .before .before .before .before .before .before .before .args in
-    let l = c .before .before .loop in
-    let n : length (l .dst) ≡ length (a .dst .now) = l .inv .2 ∙ length-stores (a .dst .now) _ _ _ _ _ _ in
-    (omega arith, (omega arith, (omega arith, omega arith)))
+exchange-sixteen-requires c κs = (omega arith, (omega arith, (omega arith, omega arith)))
 
 add-x : tie.Need-add-x Inv-loop μ-loop
 add-x c = omega arith
@@ -82,7 +55,7 @@ loop-less c = omega arith
 loop-again : tie.Need-loop-again Inv-loop μ-loop
 loop-again c =
     let l = c .before .before .before .before .before .loop in
-    let a = c .before .before .before .before .before .before .before .before .before .before .before .before .args in
+    let a = c .before .before .before .before .before .before .before .before .before .before .before .before .before .args in
     let p = c .before .before .exchange-sixteen in (
       omega arith,
       omega arith,
@@ -91,18 +64,12 @@ loop-again c =
     )
 
 same-length : tie.Need-same-length Inv-loop μ-loop
-same-length c =
-    let a = c .before .before .before .before .before .before .before .before .args in
-    let n : length (c .before .loop .dst) ≡ length (a .dst .now) = c .before .loop .inv .2 ∙ length-stores (a .dst .now) _ _ _ _ _ _ in
-    omega arith
+same-length c = omega arith
 
 returns-2 : tie.Need-returns-2 Inv-loop μ-loop
 returns-2 c =
-    let z = c .before .before .before .before .before .before .before .before in
-    let a = z .args in
-    let l = c .before .loop in
-    let one = stores3 (a .dst .now) (a .at) (getD (a .src .now) 2 0) (getD (a .src .now) 1 0) (getD (a .src .now) 0 0) (omega arith) ∙ ap (put (a .dst .now) (a .at)) (exchanged-cell24 (a .src .now) 0) in
-    (omega arith, l .inv .3 (a .dst .now) (omega arith) (first-cell (a .src .now) (a .dst .now) (a .at) _ one))
+    let a = c .before .before .before .before .before .before .before .before .before .args in
+    (omega arith, c .before .loop .inv .3 (a .dst .now) (omega arith) (first-cell (a .src .now) (a .dst .now) (a .at) (c .before .before .before .before .exchange-cell .last .1 .1 .0) (c .before .before .before .before .exchange-cell .ensures)))
 
 pub exchange-most-spec : {M : Type 1} → statement M
 exchange-most-spec =
@@ -111,14 +78,7 @@ exchange-most-spec =
     Inv-loop
     μ-loop
     returns
-    shared-slice-read-dst
-    slice-write-dst
-    shared-slice-read-dst-2
-    add-dst
-    slice-write-dst-2
-    shared-slice-read-dst-3
-    add-dst-2
-    slice-write-dst-3
+    exchange-cell-requires
     loop-holds
     sub-loop
     mul-i

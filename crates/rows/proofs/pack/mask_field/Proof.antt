@@ -1,5 +1,4 @@
 use native.Mathlib.Omega.{arith}
-use borrow.Author.Needs.{needs}
 use Rattle.rows.proofs.MaskCells.{field-none, field-some}
 use Rattle.rows.proofs.pack.mask_field.Statement.{statement}
 use Rattle.rows.proofs.pack.mask_field.Tie as tie
@@ -8,10 +7,10 @@ returns : tie.Need-returns
 returns c = field-none (c .before .before .args .channel) (c .before .before .args .sample) (c .if1 .taken) (omega arith)
 
 quantise-requires : tie.Need-quantise-requires
-quantise-requires c κs = search needs
+quantise-requires c κs = omega arith
 
 shl-result : tie.Need-shl-result
-shl-result c = search needs
+shl-result c = omega arith
 
 returns-2 : tie.Need-returns-2
 returns-2 c =

@@ -33,13 +33,13 @@ put-zeros-requires : tie.Need-put-zeros-requires
 unfolding rowStride
 put-zeros-requires c κs =
     let same : length (c .before .before .if1 .dst) ≡ length (c .before .before .before .before .before .args .dst .now) =
-    ⊎-elim (λ w. rw (w .5) (omega arith)) (λ w. rw (w .5) (omega arith)) (c .before .before .if1 .came) in
+    ⊎-elim {C = length (c .before .before .if1 .dst) ≡ length (c .before .before .before .before .before .args .dst .now)} (λ w. ap length (w .5) ∙ w .2 .kept .0) (λ w. ap length (w .5) ∙ w .2 .kept .1 .1 .0) (c .before .before .if1 .came) in
     omega arith
 
 same-length : tie.Need-same-length
 same-length c =
     let i = c .before .before .before .before .before .if1 in
-    let same : length (i .dst) ≡ length (c .before .before .before .before .before .before .before .before .args .dst .now) = ⊎-elim (λ w. rw (w .5) (omega arith)) (λ w. rw (w .5) (omega arith)) (i .came) in
+    let same : length (i .dst) ≡ length (c .before .before .before .before .before .before .before .before .args .dst .now) = ⊎-elim {C = length (i .dst) ≡ length (c .before .before .before .before .before .before .before .before .args .dst .now)} (λ w. ap length (w .5) ∙ w .2 .kept .0) (λ w. ap length (w .5) ∙ w .2 .kept .1 .1 .0) (i .came) in
     omega arith
 
 returns : tie.Need-returns

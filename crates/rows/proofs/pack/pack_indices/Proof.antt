@@ -3,7 +3,6 @@ use mathlib.Core.List.{List}
 use Prim.Native.Nat.{ℕ, _+_, _-_, _^_, _≤_, _<_}
 use native.Mathlib.Nat.{mul-le-mul-left}
 use native.Mathlib.Omega.{arith}
-use borrow.Author.Needs.{needs}
 use lib.ListN.{length, getD, replicate}
 use Rattle.leaves.specs.Put.{put}
 use Rattle.leaves.specs.Sizes.{rowStride}
@@ -32,6 +31,10 @@ copied d₀ d e row at depth stride eight bytes strides room was is =
     let p : packed depth row (rowStride (length row) depth) ≡ padded (rowStride (length row) depth) row =
     ap (λ (n : ℕ). packed n row (rowStride (length row) depth)) eight ∙ packed-8 row (rowStride (length row) depth) bytes h in
     rw p (put-padded d₀ d e row at (at + length row) (stride - length row) (rowStride (length row) depth) was is refl (omega arith) (omega arith))
+
+-- bytes up to the stride
+to-stride : (d e row : List ℕ) (at bpp n m : ℕ) → n ≡ m → e ≡ put d at (packed bpp row n) → e ≡ put d at (packed bpp row m)
+to-stride d e row at bpp n m size is = is ∙ ap (λ (k : ℕ). put d at (packed bpp row k)) size
 
 cast-row-stride : tie.Need-cast-row-stride
 cast-row-stride c = omega arith
@@ -73,12 +76,14 @@ pack-bytes-requires c κs =
     (s .pre .0, (omega (arith, stride-small (length (a .src .now)) (a .bpp) (omega arith) (depth (a .bpp) (s .pre .0) .small)), omega arith))
 
 same-length-2 : tie.Need-same-length-2
-same-length-2 c = search needs
+same-length-2 c = omega arith
 
 returns-2 : tie.Need-returns-2
 returns-2 c =
     let a = c .before .before .before .before .before .before .before .before .args in
-    c .before .before .pack-bytes .ensures ∙ ap (λ (n : ℕ). put (a .dst .now) (a .at) (packed (a .bpp) (a .src .now) n)) (c .before .before .before .before .before .row-stride .ensures)
+    let p = c .before .before .pack-bytes in
+    let r = c .before .before .before .before .before .row-stride in
+    to-stride (a .dst .now) (p .last .1 .1 .1 .0) (a .src .now) (a .at) (a .bpp) (r .result) (rowStride (length (a .src .now)) (a .bpp)) (r .ensures) (p .ensures)
 
 pub pack-indices-spec : {M : Type 1} → statement M
 pack-indices-spec =

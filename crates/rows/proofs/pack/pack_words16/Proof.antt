@@ -1,7 +1,6 @@
 use mathlib.Core.Path.{refl}
 use Prim.Native.Nat.{_+_, _-_}
 use native.Mathlib.Omega.{arith}
-use borrow.Author.Needs.{needs}
 use lib.ListN.{length}
 use Rattle.leaves.specs.Sizes.{rowStride}
 use Rattle.rows.specs.StoredRows.{storedRow}
@@ -14,10 +13,10 @@ unfolding rowStride
 put-slice-requires c κs = omega arith
 
 add-put-zeros : tie.Need-add-put-zeros
-add-put-zeros c = search needs
+add-put-zeros c = omega arith
 
 row-stride-requires : tie.Need-row-stride-requires
-row-stride-requires c κs = search needs
+row-stride-requires c κs = omega arith
 
 sub-put-zeros : tie.Need-sub-put-zeros
 unfolding rowStride
@@ -28,7 +27,7 @@ unfolding rowStride
 put-zeros-requires c κs = omega arith
 
 same-length : tie.Need-same-length
-same-length c = search needs
+same-length c = omega arith
 
 returns : tie.Need-returns
 unfolding storedRow rowStride

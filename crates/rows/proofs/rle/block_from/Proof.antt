@@ -1,7 +1,6 @@
 use Prim.Native.Nat.{_+_, _≤_}
 use native.Mathlib.Nat.{add-zero}
 use native.Mathlib.Omega.{arith}
-use borrow.Author.Needs.{needs}
 use lib.ListN.{length, drop-of-length-le}
 use lib.Seq.{getD-drop}
 use Rattle.rows.specs.RleCodes.{depthOf, cells}
@@ -17,7 +16,7 @@ returns c =
     Codes.block-run xs (s .args .at) _ _ (s .pre .2) (s .pre .1) (c .if1 .taken)
 
 gather-requires : tie.Need-gather-requires
-gather-requires c κs = search needs
+gather-requires c κs = omega arith
 
 returns-2 : tie.Need-returns-2
 returns-2 c =
@@ -26,13 +25,13 @@ returns-2 c =
     Codes.block-absolute xs (s .args .at) _ _ (s .pre .2) (s .pre .1) _ (c .before .gather .ensures) (c .before .before .if1 .left) (c .if2 .taken)
 
 add-if3 : tie.Need-add-if3
-add-if3 c = search needs
+add-if3 c = omega arith
 
 add-cell : tie.Need-add-cell
-add-cell c = search needs
+add-cell c = omega arith
 
 cell-requires : tie.Need-cell-requires
-cell-requires c κs = search needs
+cell-requires c κs = omega arith
 
 returns-3 : tie.Need-returns-3
 returns-3 c =

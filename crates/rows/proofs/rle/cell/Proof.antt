@@ -7,7 +7,6 @@ use Rattle.rows.specs.RleCodes.{depthOf, cells}
 use Rattle.rows.proofs.Scans.{cell-at}
 use native.Mathlib.Omega.{arith}
 use lib.ListN.{getD}
-use borrow.Author.Needs.{needs}
 use Rattle.rows.proofs.rle.cell.Statement.{statement}
 use Rattle.rows.proofs.rle.cell.Tie as tie
 
@@ -17,13 +16,13 @@ cut four row k m e =
     rw e (and-mask (getD row k 0) d ∙ sym (cell-at d row k), mask-lt (getD row k 0) d)
 
 shared-slice-read-result : tie.Need-shared-slice-read-result
-shared-slice-read-result c = search needs
+shared-slice-read-result c = omega arith
 
 cast-result : tie.Need-cast-result
 cast-result c = omega (arith, c .before .shared-slice-known .given (c .before .before .args .k))
 
 cell-mask-requires : tie.Need-cell-mask-requires
-cell-mask-requires c κs = search needs
+cell-mask-requires c κs = omega arith
 
 returns : tie.Need-returns
 returns c =

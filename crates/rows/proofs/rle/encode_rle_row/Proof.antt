@@ -6,7 +6,7 @@ use lib.ListN.{length, drop}
 use Rattle.leaves.specs.Put.{put}
 use Rattle.rows.specs.RleCodes.{depthOf, cells, codes, rowCodes}
 use Rattle.rows.proofs.RleBlocks.{depth-le}
-use Rattle.rows.proofs.RleBytes as Bytes
+use Rattle.rows.proofs.RleBytes.{block-fits, turn-put}
 use Rattle.rows.proofs.RleBlocks as Codes
 use Rattle.rows.proofs.Scans as Laws
 use Rattle.leaves.proofs.Puts as Puts
@@ -69,7 +69,7 @@ loop2-again : tie.Need-loop2-again Inv-loop2 μ-loop2 Inv-loop μ-loop
 loop2-again c =
     let a = c .before .before .before .before .before .before .before .before .before .before .args in
     let l = c .before .before .before .loop2 in
-    Laws.run-eight-on (depthOf (a .four)) (a .row .now) (c .before .before .before .before .before .before .before .loop .i) (l .count) (l .inv) _ (c .before .same-cells .ensures) (omega arith) (omega arith) (c .if2 .left)
+    Laws.run-eight-on (depthOf (a .four)) (a .row .now) (c .before .before .before .before .before .before .before .loop .i) (l .count) (l .inv) (c .before .same-cells .result) (c .before .same-cells .ensures) (omega arith) (omega arith) (c .if2 .left)
 
 add-cell : tie.Need-add-cell Inv-loop2 μ-loop2 Inv-loop μ-loop
 add-cell c = omega arith
@@ -87,22 +87,22 @@ loop2-again-2 : tie.Need-loop2-again-2 Inv-loop2 μ-loop2 Inv-loop μ-loop
 loop2-again-2 c =
     let a = c .before .before .before .before .before .before .before .before .before .before .before .args in
     let l = c .before .before .before .before .loop2 in
-    Laws.run-on (depthOf (a .four)) (a .row .now) (c .before .before .before .before .before .before .before .before .loop .i) (l .count) (l .inv) (omega arith) _ _ (c .before .before .before .before .before .before .cell .ensures .0) (c .before .cell2 .ensures .0) (omega arith) (c .if4 .left)
+    Laws.run-on (depthOf (a .four)) (a .row .now) (c .before .before .before .before .before .before .before .before .loop .i) (l .count) (l .inv) (omega arith) (c .before .before .before .before .before .before .cell .result) (c .before .cell2 .result) (c .before .before .before .before .before .before .cell .ensures .0) (c .before .cell2 .ensures .0) (omega arith) (c .if4 .left)
 
 block-from-requires : tie.Need-block-from-requires Inv-loop2 μ-loop2 Inv-loop μ-loop
 block-from-requires c κs =
     let a = c .before .before .before .before .before .before .before .before .args in
     let i = c .before .before .before .before .before .loop .i in
     let l = c .before .loop2 in
-    let m = c .before .before .most-cells .ensures in
-    let v = c .before .before .before .cell .ensures .0 in (
+    let m = c .before .before .most-cells in
+    let v = c .before .before .before .cell in (
       omega arith,
-      v,
+      v .ensures .0,
       ⊎-elim
-          (λ k. k .3 ∙ Laws.run-eight-stop (depthOf (a .four)) (a .row .now) i (l .count) (l .inv) _ (k .1 .ensures) (omega arith) (omega arith) (k .2 .taken))
+          (λ k. k .3 ∙ Laws.run-eight-stop (depthOf (a .four)) (a .row .now) i (l .count) (l .inv) (k .1 .result) (k .1 .ensures) (omega arith) (omega arith) (k .2 .taken))
           (⊎-elim
-          (λ k. k .2 ∙ Laws.run-end (depthOf (a .four)) (a .row .now) i (l .count) (l .inv) _ m (k .1 .taken))
-          (λ k. k .4 ∙ Laws.run-stop (depthOf (a .four)) (a .row .now) i (l .count) (l .inv) (omega arith) _ _ v (k .2 .ensures .0) (k .3 .taken)))
+          (λ k. k .2 ∙ Laws.run-end (depthOf (a .four)) (a .row .now) i (l .count) (l .inv) (m .result) (m .ensures) (k .1 .taken))
+          (λ k. k .4 ∙ Laws.run-stop (depthOf (a .four)) (a .row .now) i (l .count) (l .inv) (omega arith) (v .result) (k .2 .result) (v .ensures .0) (k .2 .ensures .0) (k .3 .taken)))
           (c .if1 .came),
     )
 
@@ -110,9 +110,8 @@ put-block-requires : tie.Need-put-block-requires Inv-loop2 μ-loop2 Inv-loop μ-
 put-block-requires c κs =
     let a = c .before .before .before .before .before .before .before .before .before .before .args in
     let l = c .before .before .before .before .before .before .before .loop in
-    let e = c .before .block-from .ensures in
-    let t = Codes.turn (depthOf (a .four)) (depth-le (a .four)) (a .row .now) (l .i) (omega arith) _ e _ _ refl refl in
-    (omega arith, e, omega arith)
+    let b = c .before .block-from in
+    (c .before .before .before .before .before .before .loop-test .taken, b .ensures, block-fits (depthOf (a .four)) (depth-le (a .four)) (a .row .now) (l .i) (c .before .before .before .before .before .before .loop-test .taken) (b .result) (b .ensures) (l .o) (a .at) (length (l .buf)) (l .inv .2) (omega arith))
 
 width-requires : tie.Need-width-requires Inv-loop2 μ-loop2 Inv-loop μ-loop
 width-requires c κs = tt
@@ -121,31 +120,27 @@ add-i : tie.Need-add-i Inv-loop2 μ-loop2 Inv-loop μ-loop
 add-i c =
     let a = c .before .before .before .before .before .before .before .before .before .before .before .before .before .before .args in
     let l = c .before .before .before .before .before .before .before .before .before .before .before .loop in
-    let e = c .before .before .before .before .before .block-from .ensures in
-    let t = Codes.turn (depthOf (a .four)) (depth-le (a .four)) (a .row .now) (l .i) (omega arith) _ e _ _ (c .width .ensures) refl in
+    let b = c .before .before .before .before .before .block-from in
+    let s = Codes.sound-at (depthOf (a .four)) (depth-le (a .four)) (a .row .now) (l .i) (c .before .before .before .before .before .before .before .before .before .before .loop-test .taken) (b .result) (b .ensures) in
     omega arith
 
 loop-less : tie.Need-loop-less Inv-loop2 μ-loop2 Inv-loop μ-loop
 loop-less c =
     let a = c .before .before .before .before .before .before .before .before .before .before .before .before .before .before .args in
     let l = c .before .before .before .before .before .before .before .before .before .before .before .loop in
-    let e = c .before .before .before .before .before .block-from .ensures in
-    let t = Codes.turn (depthOf (a .four)) (depth-le (a .four)) (a .row .now) (l .i) (omega arith) _ e _ _ (c .width .ensures) refl in
+    let b = c .before .before .before .before .before .block-from in
+    let s = Codes.sound-at (depthOf (a .four)) (depth-le (a .four)) (a .row .now) (l .i) (c .before .before .before .before .before .before .before .before .before .before .loop-test .taken) (b .result) (b .ensures) in
     omega arith
 
 loop-again : tie.Need-loop-again Inv-loop2 μ-loop2 Inv-loop μ-loop
 loop-again c =
     let a = c .before .before .before .before .before .before .before .before .before .before .before .before .before .before .args in
     let l = c .before .before .before .before .before .before .before .before .before .before .before .loop in
-    let e = c .before .before .before .before .before .block-from .ensures in
-    let t = Codes.turn (depthOf (a .four)) (depth-le (a .four)) (a .row .now) (l .i) (omega arith) _ e _ _ (c .width .ensures) refl in
-    let p = c .before .before .before .put-block in (
-      t .within,
-      p .kept .1 .1 .1 .1 .0 ∙ l .inv .1,
-      omega arith,
-      sym (Bytes.put-turn (depthOf (a .four)) (depth-le (a .four)) (a .row .now) (l .i) (omega arith) _ e (l .buf) _ (l .o) _ _ (p .ensures .1) (p .ensures .0) (c .width .ensures) (omega arith))
-          ∙ l .inv .3,
-    )
+    let b = c .before .before .before .before .before .block-from in
+    let p = c .before .before .before .put-block in
+    let t = turn-put (depthOf (a .four)) (depth-le (a .four)) (a .row .now) (l .i) (c .before .before .before .before .before .before .before .before .before .before .loop-test .taken) (b .result) (b .ensures)
+    (l .o) (a .at) (length (l .buf)) (l .inv .2) (omega arith) (a .buf .now) (l .buf) (p .last .1 .1 .1 .1 .0) (p .result) (c .width .result) (p .ensures .1) (p .ensures .0) (c .width .ensures) refl (l .inv .3) in
+    (t .0, p .kept .1 .1 .1 .1 .0 ∙ l .inv .1, t .1, t .2)
 
 same-length : tie.Need-same-length Inv-loop2 μ-loop2 Inv-loop μ-loop
 same-length c = c .before .loop .inv .1

@@ -50,7 +50,7 @@ loop-again c =
     let e : a .at + (n + 8) ≡ a .at + n + 8 = omega arith in (
       omega arith,
       omega arith,
-      c .before .before .before .loop .inv .2 ∙ rw e (lone-on (depthOf (a .four)) (a .row .now) n (a .at + n) _ (c .before .lone-cells .ensures) (omega arith) (omega arith) (c .if2 .left)),
+      c .before .before .before .loop .inv .2 ∙ rw e (lone-on (depthOf (a .four)) (a .row .now) n (a .at + n) (c .before .lone-cells .result) (c .before .lone-cells .ensures) (omega arith) (omega arith) (c .if2 .left)),
     )
 
 add-next : tie.Need-add-next Inv-loop μ-loop
@@ -97,13 +97,13 @@ returns : tie.Need-returns Inv-loop μ-loop
 returns c =
     let a = c .before .before .before .before .before .before .args in
     let n = c .before .before .before .loop .count in
-    sym (c .before .before .before .loop .inv .2 ∙ lone-stop (depthOf (a .four)) (a .row .now) n (a .at + n) _ (c .before .lone-cells .ensures) (omega arith) (omega arith) (c .if2 .taken))
+    sym (c .before .before .before .loop .inv .2 ∙ lone-stop (depthOf (a .four)) (a .row .now) n (a .at + n) (c .before .lone-cells .result) (c .before .lone-cells .ensures) (omega arith) (omega arith) (c .if2 .taken))
 
 returns-2 : tie.Need-returns-2 Inv-loop μ-loop
 returns-2 c =
     let a = c .before .before .before .before .before .args in
     let n = c .before .before .loop .count in
-    sym (c .before .before .loop .inv .2 ∙ scan-most lone (depthOf (a .four)) (a .row .now) (a .at) n _ (c .before .before .before .most-cells .ensures) (c .if3 .taken))
+    sym (c .before .before .loop .inv .2 ∙ scan-most lone (depthOf (a .four)) (a .row .now) (a .at) n (c .before .before .before .most-cells .result) (c .before .before .before .most-cells .ensures) (c .if3 .taken))
 
 returns-3 : tie.Need-returns-3 Inv-loop μ-loop
 returns-3 c =

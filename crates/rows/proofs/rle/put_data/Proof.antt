@@ -18,11 +18,11 @@ use Rattle.rows.proofs.rle.put_data.Statement.{statement}
 use Rattle.rows.proofs.rle.put_data.Tie as tie
 
 -- the bytes packed from the indices are those of the cells
-data-put : (buf row : List ℕ) (four : Bool) (d i n at len : ℕ) → depthOf four ≡ d → len ≡ dataBytes (depthOf four) n
-    → put buf at (packed d (take (i + n - i) (drop i row)) len) ≡ put buf at (packed (depthOf four) (take n (drop i (cells (depthOf four) row))) (dataBytes (depthOf four) n))
-data-put buf row four d i n at len e f =
+data-put : (buf e row : List ℕ) (four : Bool) (d i n at len : ℕ) → depthOf four ≡ d → len ≡ dataBytes (depthOf four) n
+    → e ≡ put buf at (packed d (take (i + n - i) (drop i row)) len) → e ≡ put buf at (packed (depthOf four) (take n (drop i (cells (depthOf four) row))) (dataBytes (depthOf four) n))
+data-put buf e row four d i n at len f l is =
     let g : i + n - i ≡ n = omega arith in
-    rw (f, g, e) (ap (put buf at) (packed-cut d (take n (drop i row)) (take n (drop i (cells d row))) (dataBytes d n) (part-cut d row i n)))
+    is ∙ rw (l, g, f) (ap (put buf at) (packed-cut d (take n (drop i row)) (take n (drop i (cells d row))) (dataBytes d n) (part-cut d row i n)))
 
 -- a part of bytes is bytes
 part-small : (row : List ℕ) (i n : ℕ) → ((x : ℕ) → getD row x 0 < 256) → (x : ℕ) → getD (take n (drop i row)) x 0 < 256
@@ -46,9 +46,9 @@ data-copy buf b e row four i n at len f h l within room was is =
     let d : depthOf four ≡ 8 = ap depthOf f in
     let k : length (take (i + n - i) (drop i row)) ≡ n = omega (arith, length-take (i + n - i) (drop i row), length-drop i row) in
     let z = data-eight four n f in
-    put-padded buf b e (take (i + n - i) (drop i row)) at (at + n) (len - n) len was is (omega arith) (omega arith) (omega arith)
-    ∙ ap (put buf at) (sym (packed-8 (take (i + n - i) (drop i row)) len (part-small row i (i + n - i) h) (omega arith)))
-    ∙ data-put buf row four 8 i n at len d l
+    data-put buf e row four 8 i n at len d l
+    (put-padded buf b e (take (i + n - i) (drop i row)) at (at + n) (len - n) len was is (omega arith) (omega arith) (omega arith)
+    ∙ ap (put buf at) (sym (packed-8 (take (i + n - i) (drop i row)) len (part-small row i (i + n - i) h) (omega arith))))
 
 pad-one : (b e : List ℕ) (o z : ℕ) → z ≡ 1 → o < length b → e ≡ set b o 0 → e ≡ put b o (replicate z 0)
 pad-one b e o z one h is = rw (is, one) (sym (put-cons b o 0 (replicate 0 0) h ∙ put-nil (set b o 0) (o + 1)))
@@ -65,14 +65,14 @@ data-bytes-requires c κs = omega arith
 add-end : tie.Need-add-end
 add-end c = omega arith
 
-sub-pack-bytes : tie.Need-sub-pack-bytes
-sub-pack-bytes c = omega arith
+sub-data : tie.Need-sub-data
+sub-data c = omega arith
 
-part-pack-bytes-start : tie.Need-part-pack-bytes-start
-part-pack-bytes-start c = omega arith
+part-data-start : tie.Need-part-data-start
+part-data-start c = omega arith
 
-part-pack-bytes-end : tie.Need-part-pack-bytes-end
-part-pack-bytes-end c = omega arith
+part-data-end : tie.Need-part-data-end
+part-data-end c = omega arith
 
 pack-bytes-requires : tie.Need-pack-bytes-requires
 pack-bytes-requires c κs = (refl, omega arith)
@@ -87,19 +87,11 @@ returns : tie.Need-returns
 returns c =
     let a = c .before .before .before .before .before .before .before .before .before .args in
     let n = c .before .before .before .before .before .before .data-bytes in
-    (omega arith, c .before .before .pack-bytes .ensures ∙ data-put (a .buf .now) (a .row .now) (a .four) 4 (a .i) (a .n) (a .at) (n .result) (ap depthOf (c .before .before .before .before .before .if1 .taken)) (n .ensures .0))
-
-sub-put-slice : tie.Need-sub-put-slice
-sub-put-slice c = omega arith
-
-part-put-slice-start : tie.Need-part-put-slice-start
-part-put-slice-start c = omega arith
-
-part-put-slice-end : tie.Need-part-put-slice-end
-part-put-slice-end c = omega arith
+    let p = c .before .before .pack-bytes in
+    (omega arith, data-put (a .buf .now) (p .last .1 .1 .1 .0) (a .row .now) (a .four) 4 (a .i) (a .n) (a .at) (n .result) (ap depthOf (c .before .before .before .before .if1 .taken)) (n .ensures .0) (p .ensures))
 
 put-slice-requires : tie.Need-put-slice-requires
-put-slice-requires c κs = let a = c .before .before .before .before .before .before .args in omega (arith, data-eight (a .four) (a .n) (c .before .before .if1 .left), length-take (a .i + a .n - a .i) (drop (a .i) (a .row .now)), length-drop (a .i) (a .row .now))
+put-slice-requires c κs = let a = c .before .before .before .before .before .before .args in omega (arith, data-eight (a .four) (a .n) (c .before .if1 .left), length-take (a .i + a .n - a .i) (drop (a .i) (a .row .now)), length-drop (a .i) (a .row .now))
 
 add-buf : tie.Need-add-buf
 add-buf c = omega arith
@@ -122,9 +114,9 @@ returns-2 c =
     let k = c .before .before .before .before .before .before .before .before .before .shared-slice-known in
     let n = c .before .before .before .before .before .before .before .data-bytes in
     let p = c .before .before .before .put-slice in
-    let z = data-eight (a .four) (a .n) (c .before .before .before .before .before .before .if1 .left) in (
+    let z = data-eight (a .four) (a .n) (c .before .before .before .before .before .if1 .left) in (
       omega arith,
-      data-copy (a .buf .now) (p .last .0) (c .if2 .buf) (a .row .now) (a .four) (a .i) (a .n) (a .at) (n .result) (c .before .before .before .before .before .before .if1 .left) (λ x. omega (arith, k .given x)) (n .ensures .0) (omega arith) (omega arith) (p .ensures)
+      data-copy (a .buf .now) (p .last .0) (c .if2 .buf) (a .row .now) (a .four) (a .i) (a .n) (a .at) (n .result) (c .before .before .before .before .before .if1 .left) (λ x. omega (arith, k .given x)) (n .ensures .0) (omega arith) (omega arith) (p .ensures)
           (⊎-elim
           (λ w. pad-one (p .last .0) (c .if2 .buf) (a .at + a .n) (n .result - a .n) (omega (arith, z, w .0 .taken)) (omega (arith, z, w .0 .taken, p .kept .0)) (w .1))
           (λ w. pad-none (p .last .0) (c .if2 .buf) (a .at + a .n) (n .result - a .n) (omega (arith, z, w .0 .left)) (w .1))
@@ -137,16 +129,13 @@ put-data-spec =
     (tie.spec
     data-bytes-requires
     add-end
-    sub-pack-bytes
-    part-pack-bytes-start
-    part-pack-bytes-end
+    sub-data
+    part-data-start
+    part-data-end
     pack-bytes-requires
     add-result
     same-length
     returns
-    sub-put-slice
-    part-put-slice-start
-    part-put-slice-end
     put-slice-requires
     add-buf
     slice-write-buf

@@ -1,18 +1,17 @@
 use mathlib.Core.Path.{_≡_, refl, sym}
 use mathlib.Core.Bool.{Bool}
 use mathlib.Core.List.{List}
-use Prim.Native.Nat.{ℕ, _+_, _-_, _*_, _≤_}
+use Prim.Native.Nat.{ℕ, _+_, _-_, _≤_}
 use native.Mathlib.Nat.{le-antisymm, add-zero}
 use native.Mathlib.Omega.{arith}
-use borrow.Author.Needs.{needs}
 use lib.Dec.{eqb}
-use lib.ListN.{length, take, drop}
+use lib.ListN.{length}
 use Rattle.leaves.specs.Lists.{cat}
 use Rattle.leaves.specs.Put.{put}
-use Rattle.rows.specs.RleCodes.{isRle4, depthOf, rowCodes}
+use Rattle.rows.specs.RleCodes.{isRle4, depthOf}
 use Rattle.rows.specs.Stream.{streamRow, stream}
 use Rattle.leaves.proofs.Puts.{put-nil}
-use Rattle.rows.proofs.Streams.{row-inside, row-fits, write-turn, count-turn}
+use Rattle.rows.proofs.Streams.{row-inside, row-fits, write-turn, place-turn}
 use Rattle.rows.proofs.rle.rle_into.Statement.{statement}
 use Rattle.rows.proofs.rle.rle_into.Tie as tie
 
@@ -49,10 +48,10 @@ sub-start-2 : tie.Need-sub-start-2 Inv-loop μ-loop
 sub-start-2 c = omega arith
 
 mul-start : tie.Need-mul-start Inv-loop μ-loop
-mul-start c = omega (arith, row-inside (c .before .before .before .before .before .args .height) (c .before .loop .y) (c .before .before .before .before .before .args .stride) (c .before .before .before .before .before .args .width) (length (c .before .before .before .before .before .args .plane .now)) (omega arith) (omega arith) (omega arith))
+mul-start c = let s = c .before .before .before .before .before in omega (arith, row-inside (s .args .height) (c .before .loop .y) (s .args .stride) (s .args .width) (length (s .args .plane .now)) (c .loop-test .taken) (s .pre .0) (s .pre .1 .0))
 
 add-end : tie.Need-add-end Inv-loop μ-loop
-add-end c = omega (arith, row-inside (c .before .before .before .before .before .args .height) (c .before .loop .y) (c .before .before .before .before .before .args .stride) (c .before .before .before .before .before .args .width) (length (c .before .before .before .before .before .args .plane .now)) (omega arith) (omega arith) (omega arith))
+add-end c = let s = c .before .before .before .before .before in omega (arith, row-inside (s .args .height) (c .before .loop .y) (s .args .stride) (s .args .width) (length (s .args .plane .now)) (c .loop-test .taken) (s .pre .0) (s .pre .1 .0))
 
 add-last : tie.Need-add-last Inv-loop μ-loop
 add-last c = omega arith
@@ -61,16 +60,16 @@ sub-rle-row : tie.Need-sub-rle-row Inv-loop μ-loop
 sub-rle-row c = omega arith
 
 part-rle-row-start : tie.Need-part-rle-row-start Inv-loop μ-loop
-part-rle-row-start c = search needs
+part-rle-row-start c = omega arith
 
 part-rle-row-end : tie.Need-part-rle-row-end Inv-loop μ-loop
-part-rle-row-end c = let w = row-inside (c .before .before .before .before .before .args .height) (c .before .loop .y) (c .before .before .before .before .before .args .stride) (c .before .before .before .before .before .args .width) (length (c .before .before .before .before .before .args .plane .now)) (omega arith) (omega arith) (omega arith) in search needs
+part-rle-row-end c = let s = c .before .before .before .before .before in omega (arith, row-inside (s .args .height) (c .before .loop .y) (s .args .stride) (s .args .width) (length (s .args .plane .now)) (c .loop-test .taken) (s .pre .0) (s .pre .1 .0))
 
 rle-row-requires : tie.Need-rle-row-requires Inv-loop μ-loop
 rle-row-requires c κs =
     let a = c .before .before .before .before .before .before .before .args in
     let l = c .before .before .before .loop in
-    row-fits (depthOf (c .before .before .before .before .is-rle4 .result)) (a .width) (a .height) (a .plane .now) (a .stride) (l .y) (a .at) (l .o) (length (l .buf)) (omega arith) (l .inv .1)
+    row-fits (depthOf (c .before .before .before .before .is-rle4 .result)) (a .width) (a .height) (a .plane .now) (a .stride) (l .y) (a .at) (l .o) (length (l .buf)) (c .before .before .loop-test .taken) (l .inv .1)
     (room (c .before .before .before .before .is-rle4 .result) (isRle4 (a .rle)) (a .width) (a .height) (a .plane .now) (a .stride) (a .at) (length (l .buf)) (length (a .buf .now)) (c .before .before .before .before .is-rle4 .ensures) (l .inv .2) (c .before .before .before .before .before .before .before .pre .1 .1))
 
 add-y : tie.Need-add-y Inv-loop μ-loop
@@ -81,18 +80,17 @@ loop-less c = omega arith
 
 loop-again : tie.Need-loop-again Inv-loop μ-loop
 loop-again c =
-    let a = c .before .before .before .before .before .before .before .before .before .before .args in
+    let s = c .before .before .before .before .before .before .before .before .before .before in
+    let a = s .args in
     let l = c .before .before .before .before .before .before .loop in
-    let four = c .before .before .before .before .before .before .before .is-rle4 .result in
-    let f = streamRow (depthOf four) (a .width) (a .height) (a .plane .now) (a .stride) in
-    let n = rowCodes (depthOf four) (take ((a .height - 1 - l .y) * a .stride + a .width - (a .height - 1 - l .y) * a .stride) (drop ((a .height - 1 - l .y) * a .stride) (a .plane .now))) in
-    let t = count-turn (depthOf four) (a .width) (a .height) (a .plane .now) (a .stride) (l .y) (length (cat f (l .y))) (length n) refl refl in
-    let r = c .before .before .rle-row in (
+    let four = c .before .before .before .before .before .before .before .is-rle4 in
+    let r = c .before .before .rle-row in
+    let below = c .before .before .before .before .before .loop-test .taken in (
       omega arith,
-      omega (arith, r .ensures .0),
+      place-turn (depthOf (four .result)) (a .width) (a .height) (a .plane .now) (a .stride) (l .y) (a .at) (l .o) (r .result) (l .inv .1) (r .ensures .0),
       omega arith,
-      write-turn (depthOf four) (a .width) (a .height) (a .plane .now) (a .stride) (l .y) (a .buf .now) (l .buf) (r .last .1 .1 .1 .0) (a .at) (l .o) (eqb (l .y + 1) (a .height)) refl (omega arith)
-          (room four (isRle4 (a .rle)) (a .width) (a .height) (a .plane .now) (a .stride) (a .at) (length (a .buf .now)) (length (a .buf .now)) (c .before .before .before .before .before .before .before .is-rle4 .ensures) refl (c .before .before .before .before .before .before .before .before .before .before .pre .1 .1))
+      write-turn (depthOf (four .result)) (a .width) (a .height) (a .plane .now) (a .stride) (l .y) (a .buf .now) (l .buf) (r .last .1 .1 .1 .0) (a .at) (l .o) (eqb (l .y + 1) (a .height)) refl below
+          (room (four .result) (isRle4 (a .rle)) (a .width) (a .height) (a .plane .now) (a .stride) (a .at) (length (a .buf .now)) (length (a .buf .now)) (four .ensures) refl (s .pre .1 .1))
           (l .inv .1) (l .inv .3) (r .ensures .1),
     )
 

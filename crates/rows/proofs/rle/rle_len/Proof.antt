@@ -4,7 +4,6 @@ use mathlib.Core.Path.{_≡_, refl, ap, _∙_}
 use Prim.Native.Nat.{ℕ, _+_, _-_, _*_, _≤_}
 use native.Mathlib.Nat.{le-antisymm}
 use native.Mathlib.Omega.{arith}
-use borrow.Author.Needs.{needs}
 use lib.ListN.{take, drop, length-take, length}
 use Rattle.rows.specs.RleCodes.{isRle4, depthOf}
 use Rattle.leaves.specs.Lists.{cat}
@@ -52,19 +51,19 @@ sub-start-2 : tie.Need-sub-start-2 Inv-loop μ-loop
 sub-start-2 c = omega arith
 
 mul-start : tie.Need-mul-start Inv-loop μ-loop
-mul-start c = omega (arith, row-inside (c .before .before .before .before .before .args .height) (c .before .before .loop .y) (c .before .before .before .before .before .args .stride) (c .before .before .before .before .before .args .width) (length (c .before .before .before .before .before .args .plane .now)) (omega arith) (omega arith) (omega arith))
+mul-start c = let s = c .before .before .before .before .before in omega (arith, row-inside (s .args .height) (c .before .before .loop .y) (s .args .stride) (s .args .width) (length (s .args .plane .now)) (c .before .loop-test .taken) (s .pre .0) (s .pre .1 .0))
 
 add-end : tie.Need-add-end Inv-loop μ-loop
-add-end c = omega (arith, row-inside (c .before .before .before .before .before .args .height) (c .before .before .loop .y) (c .before .before .before .before .before .args .stride) (c .before .before .before .before .before .args .width) (length (c .before .before .before .before .before .args .plane .now)) (omega arith) (omega arith) (omega arith))
+add-end c = let s = c .before .before .before .before .before in omega (arith, row-inside (s .args .height) (c .before .before .loop .y) (s .args .stride) (s .args .width) (length (s .args .plane .now)) (c .before .loop-test .taken) (s .pre .0) (s .pre .1 .0))
 
 sub-rle-row-len : tie.Need-sub-rle-row-len Inv-loop μ-loop
 sub-rle-row-len c = omega arith
 
 part-rle-row-len-start : tie.Need-part-rle-row-len-start Inv-loop μ-loop
-part-rle-row-len-start c = search needs
+part-rle-row-len-start c = omega arith
 
 part-rle-row-len-end : tie.Need-part-rle-row-len-end Inv-loop μ-loop
-part-rle-row-len-end c = let w = row-inside (c .before .before .before .before .before .args .height) (c .before .before .loop .y) (c .before .before .before .before .before .args .stride) (c .before .before .before .before .before .args .width) (length (c .before .before .before .before .before .args .plane .now)) (omega arith) (omega arith) (omega arith) in search needs
+part-rle-row-len-end c = let s = c .before .before .before .before .before in omega (arith, row-inside (s .args .height) (c .before .before .loop .y) (s .args .stride) (s .args .width) (length (s .args .plane .now)) (c .before .loop-test .taken) (s .pre .0) (s .pre .1 .0))
 
 rle-row-len-requires : tie.Need-rle-row-len-requires Inv-loop μ-loop
 rle-row-len-requires c κs = tt

@@ -3,7 +3,6 @@ use mathlib.Core.Bool.{Bool, true, false, cond}
 use mathlib.Core.List.{List, [], _∷_, _++_}
 use Prim.Native.Nat.{ℕ, _+_, _≤_}
 use native.Mathlib.Omega.{arith}
-use borrow.Author.Needs.{needs}
 use lib.ListN.{length, set, length-set}
 use mir.Val.{boolByte}
 use Rattle.leaves.specs.Put.{put}
@@ -26,25 +25,25 @@ end-put buf buf′ r at o last eo eb fits =
     ∙ rw (eo, eb) (put-append buf at r (0 ∷ cond last 1 0 ∷ []) (omega arith))
 
 encode-rle-row-requires : tie.Need-encode-rle-row-requires
-encode-rle-row-requires c κs = search needs
+encode-rle-row-requires c κs = omega arith
 
 slice-write-buf : tie.Need-slice-write-buf
-slice-write-buf c = search needs
+slice-write-buf c = omega arith
 
 cast-buf : tie.Need-cast-buf
-cast-buf c = search needs
+cast-buf c = omega arith
 
 add-buf : tie.Need-add-buf
-add-buf c = search needs
+add-buf c = omega arith
 
 slice-write-buf-2 : tie.Need-slice-write-buf-2
 slice-write-buf-2 c = simp length-set (omega arith)
 
 add-result : tie.Need-add-result
-add-result c = search needs
+add-result c = omega arith
 
 same-length : tie.Need-same-length
-same-length c = search needs
+same-length c = simp length-set (omega arith)
 
 returns : tie.Need-returns
 returns c =

@@ -12,9 +12,6 @@ Inv-loop row at four v most count₀ count = Laws.Running (depthOf four) row at 
 abbrev μ-loop : tie.MeasureT-loop
 μ-loop row at four v most count₀ count = length row - count
 
-cell-requires : tie.Need-cell-requires Inv-loop μ-loop
-cell-requires c κs = omega arith
-
 sub-most-cells : tie.Need-sub-most-cells Inv-loop μ-loop
 sub-most-cells c = omega arith
 
@@ -47,15 +44,15 @@ loop-less c = omega arith
 
 loop-again : tie.Need-loop-again Inv-loop μ-loop
 loop-again c =
-    let a = c .before .before .before .before .before .before .before .args in
+    let a = c .before .before .before .before .before .before .args in
     let l = c .before .before .before .loop in
-    Laws.run-eight-on (depthOf (a .four)) (a .row .now) (a .at) (l .count) (l .inv) _ (c .before .same-cells .ensures) (omega arith) (omega arith) (c .if2 .left)
+    Laws.run-eight-on (depthOf (a .four)) (a .row .now) (a .at) (l .count) (l .inv) (c .before .same-cells .result) (c .before .same-cells .ensures) (omega arith) (omega arith) (c .if2 .left)
 
 add-cell : tie.Need-add-cell Inv-loop μ-loop
 add-cell c = omega arith
 
-cell-requires-2 : tie.Need-cell-requires-2 Inv-loop μ-loop
-cell-requires-2 c κs = omega arith
+cell-requires : tie.Need-cell-requires Inv-loop μ-loop
+cell-requires c κs = omega arith
 
 add-count-2 : tie.Need-add-count-2 Inv-loop μ-loop
 add-count-2 c = omega arith
@@ -65,27 +62,29 @@ loop-less-2 c = omega arith
 
 loop-again-2 : tie.Need-loop-again-2 Inv-loop μ-loop
 loop-again-2 c =
-    let a = c .before .before .before .before .before .before .before .before .args in
+    let s = c .before .before .before .before .before .before .before in
+    let a = s .args in
     let l = c .before .before .before .before .loop in
-    Laws.run-on (depthOf (a .four)) (a .row .now) (a .at) (l .count) (l .inv) (omega arith) _ _ (c .before .before .before .before .before .before .cell .ensures .0) (c .before .cell2 .ensures .0) (omega arith) (c .if4 .left)
+    Laws.run-on (depthOf (a .four)) (a .row .now) (a .at) (l .count) (l .inv) (omega arith) (a .v) (c .before .cell .result) (s .pre .1) (c .before .cell .ensures .0) (omega arith) (c .if4 .left)
 
 returns : tie.Need-returns Inv-loop μ-loop
 returns c =
-    let a = c .before .before .before .before .before .before .before .args in
+    let a = c .before .before .before .before .before .before .args in
     let l = c .before .before .before .loop in
-    Laws.run-eight-stop (depthOf (a .four)) (a .row .now) (a .at) (l .count) (l .inv) _ (c .before .same-cells .ensures) (omega arith) (omega arith) (c .if2 .taken)
+    Laws.run-eight-stop (depthOf (a .four)) (a .row .now) (a .at) (l .count) (l .inv) (c .before .same-cells .result) (c .before .same-cells .ensures) (omega arith) (omega arith) (c .if2 .taken)
 
 returns-2 : tie.Need-returns-2 Inv-loop μ-loop
 returns-2 c =
-    let a = c .before .before .before .before .before .before .args in
+    let a = c .before .before .before .before .before .args in
     let l = c .before .before .loop in
-    Laws.run-end (depthOf (a .four)) (a .row .now) (a .at) (l .count) (l .inv) _ (c .before .before .before .most-cells .ensures) (c .if3 .taken)
+    Laws.run-end (depthOf (a .four)) (a .row .now) (a .at) (l .count) (l .inv) (c .before .before .before .most-cells .result) (c .before .before .before .most-cells .ensures) (c .if3 .taken)
 
 returns-3 : tie.Need-returns-3 Inv-loop μ-loop
 returns-3 c =
-    let a = c .before .before .before .before .before .before .before .before .args in
+    let s = c .before .before .before .before .before .before .before in
+    let a = s .args in
     let l = c .before .before .before .before .loop in
-    Laws.run-stop (depthOf (a .four)) (a .row .now) (a .at) (l .count) (l .inv) (omega arith) _ _ (c .before .before .before .before .before .before .cell .ensures .0) (c .before .cell2 .ensures .0) (c .if4 .taken)
+    Laws.run-stop (depthOf (a .four)) (a .row .now) (a .at) (l .count) (l .inv) (omega arith) (a .v) (c .before .cell .result) (s .pre .1) (c .before .cell .ensures .0) (c .if4 .taken)
 
 pub run-length-spec : {M : Type 1} → statement M
 run-length-spec =
@@ -93,7 +92,6 @@ run-length-spec =
     (tie.spec
     Inv-loop
     μ-loop
-    cell-requires
     sub-most-cells
     most-cells-requires
     loop-holds
@@ -106,7 +104,7 @@ run-length-spec =
     loop-less
     loop-again
     add-cell
-    cell-requires-2
+    cell-requires
     add-count-2
     loop-less-2
     loop-again-2

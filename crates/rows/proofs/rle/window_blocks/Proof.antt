@@ -4,21 +4,21 @@ use mathlib.Core.Path.{refl}
 use Rattle.rows.specs.Windows.{flagsAt}
 use Rattle.rows.proofs.WindowCharges.{coded}
 use Prim.Native.Nat.{ℕ}
-use borrow.Author.Needs.{needs}
+use native.Mathlib.Omega.{arith}
 use Rattle.rows.proofs.rle.window_blocks.Statement.{statement}
 use Rattle.rows.proofs.rle.window_blocks.Tie as tie
 
 window-flags-requires : tie.Need-window-flags-requires
-window-flags-requires c κs = search needs
+window-flags-requires c κs = omega arith
 
 whole-runs-requires : tie.Need-whole-runs-requires
-whole-runs-requires c κs = search needs
+whole-runs-requires c κs = omega arith
 
 returns : tie.Need-returns
 returns c = inl refl
 
 charge-below-requires : tie.Need-charge-below-requires
-charge-below-requires c κs = search needs
+charge-below-requires c κs = omega arith
 
 returns-2 : tie.Need-returns-2
 returns-2 c =

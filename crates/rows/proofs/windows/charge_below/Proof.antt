@@ -1,14 +1,13 @@
 use mathlib.Core.Path.{ap}
 use Prim.Native.Nat.{ℕ, _*_}
 use native.Mathlib.Omega.{arith}
-use borrow.Author.Needs.{needs}
 use Rattle.rows.specs.Windows.{charged}
 use Rattle.rows.proofs.Charges.{below-law, below-le}
 use Rattle.rows.proofs.windows.charge_below.Statement.{statement}
 use Rattle.rows.proofs.windows.charge_below.Tie as tie
 
 charges-requires : tie.Need-charges-requires
-charges-requires c κs = search needs
+charges-requires c κs = omega arith
 
 sub-result : tie.Need-sub-result
 sub-result c = omega arith

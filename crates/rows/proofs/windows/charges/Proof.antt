@@ -1,10 +1,10 @@
-use borrow.Author.Needs.{needs}
+use native.Mathlib.Omega.{arith}
 use Rattle.rows.proofs.Charges.{charge-law}
 use Rattle.rows.proofs.windows.charges.Statement.{statement}
 use Rattle.rows.proofs.windows.charges.Tie as tie
 
 wrapping-add-u64-requires : tie.Need-wrapping-add-u64-requires
-wrapping-add-u64-requires c κs = search needs
+wrapping-add-u64-requires c κs = omega arith
 
 returns : tie.Need-returns
 returns c = charge-law (c .before .args .e) (c .wrapping-add-u64 .result) (c .wrapping-add-u64 .ensures)

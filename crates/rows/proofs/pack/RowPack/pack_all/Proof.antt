@@ -2,7 +2,6 @@ use mathlib.Core.Path.{_≡_, refl, ap, _∙_}
 use mathlib.Core.Logic.{⊎-elim}
 use Prim.Native.Nat.{ℕ, _+_, _-_, _*_, _≤_}
 use native.Mathlib.Omega.{arith}
-use borrow.Author.Needs.{needs}
 use lib.ListN.{length, length-take, length-drop}
 use Rattle.leaves.specs.Lists.{cat}
 use Rattle.leaves.specs.Put.{put}
@@ -67,7 +66,7 @@ sub-row : tie.Need-sub-row Inv-loop μ-loop
 sub-row c = omega arith
 
 part-row-start : tie.Need-part-row-start Inv-loop μ-loop
-part-row-start c = search needs
+part-row-start c = omega arith
 
 part-row-end : tie.Need-part-row-end Inv-loop μ-loop
 part-row-end c =
@@ -77,7 +76,7 @@ part-row-end c =
     let b = i .before .before .before .source-bytes in
     let below = from-below (c .before .if1 .from) (i .loop .y) (a .height) (c .before .before .loop-test .taken) (c .before .if1 .came) in
     let within = row-within (c .before .if1 .from) (a .height) (a .stride) (a .width) (b .result) (packBytes (a .self)) (length (a .plane .now)) below (b .ensures) (s .pre .1 .0) (s .pre .1 .1 .0) in
-    search needs
+    omega arith
 
 row-requires : tie.Need-row-requires Inv-loop μ-loop
 row-requires c κs =

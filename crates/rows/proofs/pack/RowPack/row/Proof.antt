@@ -53,7 +53,7 @@ pack-requires c κs =
     masks-ask (a .self) (g .0 .0) (g .0 .1 .0) (g .0 .1 .1 .0) (a .width) (length (a .src .now)) (a .at) (length (a .dst .now)) (g .1) (s .pre .0) (s .pre .1 .0) (s .pre .1 .1)
 
 same-length : tie.Need-same-length
-same-length c = search needs
+same-length c = omega arith
 
 returns : tie.Need-returns
 returns c =
@@ -62,7 +62,7 @@ returns c =
     case-gives (a .self) (Bgra32 (c .before .before .before .before .before .self .given .0 .0)) (a .width) (a .at) (a .src .now) (a .dst .now) (c .before .before .pack-bgra32 .last .1 .1 .1 .0) (c .before .before .before .before .before .self .given .1) (c .before .before .pack-bgra32 .ensures)
 
 same-length-2 : tie.Need-same-length-2
-same-length-2 c = search needs
+same-length-2 c = omega arith
 
 returns-2 : tie.Need-returns-2
 returns-2 c =
@@ -71,7 +71,7 @@ returns-2 c =
     case-gives (a .self) (Bgr24 (c .before .before .before .before .before .self2 .given .0 .0)) (a .width) (a .at) (a .src .now) (a .dst .now) (c .before .before .pack-bgr24 .last .1 .1 .1 .0) (c .before .before .before .before .before .self2 .given .1) (c .before .before .pack-bgr24 .ensures)
 
 same-length-3 : tie.Need-same-length-3
-same-length-3 c = search needs
+same-length-3 c = omega arith
 
 returns-3 : tie.Need-returns-3
 returns-3 c =
@@ -80,7 +80,7 @@ returns-3 c =
     case-gives (a .self) Words16 (a .width) (a .at) (a .src .now) (a .dst .now) (c .before .before .pack-words16 .last .1 .1 .0) (c .before .before .before .before .enum-told .given .1) (c .before .before .pack-words16 .ensures)
 
 same-length-4 : tie.Need-same-length-4
-same-length-4 c = search needs
+same-length-4 c = omega arith
 
 returns-4 : tie.Need-returns-4
 returns-4 c =
@@ -90,7 +90,7 @@ returns-4 c =
     indices-give (a .self) (g .0 .0) (a .width) (a .at) (a .src .now) (a .dst .now) (c .before .before .pack-indices .last .1 .1 .0) (g .1) (s .pre .1 .0) (c .before .before .pack-indices .ensures)
 
 same-length-5 : tie.Need-same-length-5
-same-length-5 c = search needs
+same-length-5 c = omega arith
 
 returns-5 : tie.Need-returns-5
 returns-5 c =

@@ -15,7 +15,7 @@ data-bytes-requires : tie.Need-data-bytes-requires
 data-bytes-requires c κs = omega (arith, ap width (c .before .self .given .1))
 
 add-result : tie.Need-add-result
-add-result c = search needs
+add-result c = omega arith
 
 returns : tie.Need-returns
 returns c = search needs
