@@ -17,8 +17,9 @@ use Rattle.leaves.specs.Bytes.{le32}
 use Rattle.leaves.specs.Formats.{bitsPerPixel, isIndexed}
 use Rattle.leaves.specs.Sizes.{paletteEntryCount, writtenPaletteEntries, clrUsed}
 use Rattle.format.specs.Headers.{dwords, v4Fields, v5Fields, longs}
+use Rattle.leaves.specs.Masks.{hasAlphaMask}
 use Rattle.format.specs.Input.{Input}
-use Rattle.format.specs.File.{Mode, masked, calibrated, profiled, plain, modeOf, tailOf, depthIn, entriesOf, tableEntry, colourTable, isRgb565, headerSize, longMasks, headRest, headBytes, rawBytes, maxFile, pixels, fileSize, fileOf}
+use Rattle.format.specs.File.{Mode, masked, calibrated, profiled, plain, modeOf, tailOf, depthIn, entriesOf, tableEntry, colourTable, isRgb565, headerSize, longMasks, maskTail, headRest, headBytes, rawBytes, maxFile, pixels, fileSize, fileOf}
 use Rattle.format.specs.Accepted.{Accepted}
 use Rattle.format.specs.Refusals.{maskSource}
 use Rattle.format.specs.Expectation.{coloursShown, paletteShown}
@@ -42,6 +43,12 @@ pub v4-length : (masks : List ℕ) (space : ℕ) (ends gammas : List ℕ) → le
     → length (v4Fields masks space ends gammas) ≡ 68
 unfolding v4Fields le32
 v4-length masks space ends gammas a b c = simp (length-append, dwords-length) (omega arith)
+
+-- the masks behind a 40-byte header have 16 bytes with an alpha mask, and 12 without
+pub mask-tail : (masks : List ℕ) (b : Bool) → hasAlphaMask masks ≡ b → length (maskTail masks) ≡ cond b 16 12
+unfolding maskTail dwords le32
+mask-tail masks true e = rw e
+mask-tail masks false e = rw e
 
 -- the longer headers have four masks
 pub four-masks : (f : BmpPixelFormat) → length (longMasks f) ≡ 4

@@ -34,9 +34,13 @@ take-small (suc n) [] b p h k = p
 take-small (suc n) (x ∷ xs) b p h zero = h 0
 take-small (suc n) (x ∷ xs) b p h (suc k) = take-small n xs b p (λ j. h (suc j)) k
 
+-- and of its parts
+pub part-small : (xs : List ℕ) (i n b : ℕ) → 0 < b → ((k : ℕ) → getD xs k 0 < b) → (k : ℕ) → getD (take n (drop i xs)) k 0 < b
+part-small xs i n b p h = take-small n (drop i xs) b p (λ k. rw (getD-drop i xs k 0) (h (i + k)))
+
 -- its bytes are bytes
 pub source-small : (plane : List ℕ) (stride n y : ℕ) → ((k : ℕ) → getD plane k 0 < 256) → (k : ℕ) → getD (sourceRow plane stride n y) k 0 < 256
-source-small plane stride n y h = take-small n (drop (y * stride) plane) 256 (omega arith) (λ k. rw (getD-drop (y * stride) plane k 0) (h (y * stride + k)))
+source-small plane stride n y h = part-small plane (y * stride) n 256 (omega arith) h
 
 -- what must be shown of a pixel depends on its own bytes alone
 pub plainly-of : (f : BmpPixelFormat) (a b : ℕ → ℕ) → ((k : ℕ) → k < pixelBytes f → a k ≡ b k) → plainlyShown f a ≡ plainlyShown f b

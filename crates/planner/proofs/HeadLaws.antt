@@ -15,7 +15,7 @@ use Rattle.format.specs.File.{maskTail, tableEntry}
 use Rattle.format.specs.Headers.{dwords, v4Fields}
 use Rattle.leaves.proofs.ListLaws.{length-cat, length-le32}
 use Rattle.leaves.proofs.Puts.{put-append}
-use Rattle.format.proofs.HeadTable.{dwords-length}
+use Rattle.format.proofs.HeadTable.{dwords-length, mask-tail}
 
 -- one piece more, put where the pieces so far end
 pub put-next : (d b e s t : List ℕ) (at n q : ℕ) → length s ≡ n → q ≡ at + n → at + n ≤ length d → b ≡ put d at s → e ≡ put b q t → e ≡ put d at (s ++ t)
@@ -78,8 +78,7 @@ tail-long masks = omega arith
 
 -- with an alpha mask it has 16
 pub tail-length : (masks : List ℕ) → (getD masks 3 0 ≡ 0 → ⊥) → length (maskTail masks) ≡ 16
-unfolding dwords le32
-tail-length masks some = ap length (tail-alpha masks some)
+tail-length masks some = mask-tail masks true (ap not (ne-eqb (getD masks 3 0) 0 some))
 
 -- ---- the fields of the 108-byte header
 

@@ -8,17 +8,15 @@ use borrow.Author.Tests.{eqb-true, eqb-false}
 use lib.Dec.{eqb}
 use lib.ListN.{length, getD}
 use Rattle.leaves.specs.declared.bitfields.MaskShiftLen.{MaskShiftLen}
-use Rattle.leaves.specs.Bytes.{le32}
 use Rattle.leaves.specs.Formats.{bitsPerPixel, isIndexed}
 use Rattle.leaves.specs.Masks.{count, lowest, isOneRun, hasAlphaMask, ShiftLen}
 use Rattle.leaves.specs.Refusals.{profileMode}
 use Rattle.leaves.specs.Sizes.{writtenPaletteEntries}
 use Rattle.rows.specs.declared.pack.MaskLayout.{MaskLayout}
-use Rattle.format.specs.File.{Mode, masked, calibrated, profiled, plain, isPlain, coded, rlePlanned, modeOf, channelOf, layoutOf, maskTail, headRest, headerSize, entriesOf}
-use Rattle.format.specs.Headers.{dwords}
+use Rattle.format.specs.File.{Mode, masked, calibrated, profiled, plain, isPlain, coded, rlePlanned, modeOf, channelOf, layoutOf, headRest, headerSize, entriesOf}
 use Rattle.format.specs.Input.{Input}
 use Rattle.leaves.proofs.TableCounts.{entries-le, written-le}
-use Rattle.format.proofs.HeadTable.{header-fills}
+use Rattle.format.proofs.HeadTable.{mask-tail, header-fills}
 use Rattle.format.proofs.Modes.{isMasked, given-mode, not-masked}
 
 -- ---- the mode
@@ -74,16 +72,10 @@ layout-is d masks l runs e r g b a =
 
 -- ---- the head's length
 
--- the masks of mask mode
-mask-tail : (masks : List ℕ) (b : Bool) → hasAlphaMask masks ≡ b → cond b 16 12 ≡ length (maskTail masks)
-unfolding maskTail dwords le32
-mask-tail masks true e = rw e
-mask-tail masks false e = rw e
-
 -- the length of what stands behind the first 40 bytes in mask mode
 pub masked-rest : (i : Input) (b : Bool) → masked ≡ modeOf i → hasAlphaMask (i .options .bitfields .masks) ≡ b → cond b 16 12 ≡ length (headRest (modeOf i) i 0)
 unfolding headRest
-masked-rest i b m e = mask-tail (i .options .bitfields .masks) b e ∙ ap (λ (n : Mode). length (headRest n i 0)) m
+masked-rest i b m e = sym (mask-tail (i .options .bitfields .masks) b e) ∙ ap (λ (n : Mode). length (headRest n i 0)) m
 
 -- the longer headers
 pub other-rest : (i : Input) (m : Mode) (n : ℕ) → length (i .options .«calibrated_rgb» .endpoints) ≡ 9 → length (i .options .«calibrated_rgb» .gamma) ≡ 3

@@ -20,6 +20,7 @@ use Rattle.rows.proofs.Nibbles.{byte-4}
 use Rattle.rows.proofs.PackLaws.{packed-8, padded-full}
 use Rattle.rows.proofs.RleBytes.{cell-small}
 use Rattle.rows.proofs.Scans.{length-cells, cell-at, scan-full, scan-end, scan-stop, scan-step, twin-at, twin-end}
+use Rattle.format.proofs.SourceRows.{part-small}
 use Rattle.reference.specs.Rust.{Run, done, _>>=_, andThen, u8, usize, cast, at, push, for, loop, while, Turn, next, leave, turned}
 use Rattle.reference.specs.Rle.{equal, runFrom, absTurn, absFrom, Coder, padOdd, literal8, turn8, encodeRle8Row, nibble, nibbles, nibbleIf, pairTurn, literal4, turn4, encodeRle4Row}
 use Rattle.reference.proofs.RunLaws.{add-is, shl-is, at-is, range-is, for-is}
@@ -167,13 +168,6 @@ module _ (xs : List ℕ) (i n : ℕ) where
 
   part-past : (k : ℕ) → n ≤ k → getD (take n (drop i xs)) k 0 ≡ 0
   part-past k h = List·getD-eq-default (take n (drop i xs)) 0 (omega (arith, length-take n (drop i xs)))
-
-  part-small : (b : ℕ) → 0 < b → ((k : ℕ) → getD xs k 0 < b) → (k : ℕ) → getD (take n (drop i xs)) k 0 < b
-  part-small b some small k = go (ltb k n) refl
-    where
-      go : (t : Bool) → ltb k n ≡ t → getD (take n (drop i xs)) k 0 < b
-      go true e = rw (part-at k (ltb-true k n e)) (small (i + k))
-      go false e = rw (part-past k (ltb-false k n e)) some
 
 -- a pair's two bytes
 pair-bytes : (out : List ℕ) (n x y : ℕ) → n ≤ 255 → x ≡ y → push (push out (cast u8 n)) x ≡ out ++ (n ∷ y ∷ [])

@@ -12,11 +12,9 @@ use Rattle.leaves.specs.declared.image.BmpPixelFormat.the-variants as source
 use Rattle.leaves.specs.Formats.{bitsPerPixel, isIndexed}
 use Rattle.leaves.specs.Masks.{hasAlphaMask}
 use Rattle.format.specs.File.{Mode, masked, calibrated, profiled, plain, tailOf, entriesOf, isRgb565, headerSize, longMasks, maskTail, headRest}
-use Rattle.format.specs.Headers.{dwords}
 use Rattle.format.specs.Input.{Input}
-use Rattle.format.proofs.HeadTable.{header-fills}
+use Rattle.format.proofs.HeadTable.{mask-tail, header-fills}
 use Rattle.format.proofs.Modes.{not-masked}
-use Rattle.leaves.specs.Bytes.{le32}
 use Rattle.planner.proofs.ModeLaws.{entries-direct, entries-small}
 use Rattle.reference.specs.Rust.{done, panics, _>>=_, Option, some, none, add}
 use Rattle.reference.specs.Types.{Palette}
@@ -73,11 +71,6 @@ long-len n b i h bare =
     let small = entries-small i in
     let e : 14 + (n + entriesOf i * 4) ≡ 14 + n + 4 * entriesOf i = omega arith in
     rw (table-bytes b i bare, add-is 32 n (entriesOf i * 4) (omega (arith, h, small)), add-is 32 14 (n + entriesOf i * 4) (omega (arith, h, small)), e)
-
-mask-tail : (masks : List ℕ) (b : Bool) → hasAlphaMask masks ≡ b → length (maskTail masks) ≡ cond b 16 12
-unfolding maskTail dwords le32
-mask-tail masks true e = rw e
-mask-tail masks false e = rw e
 
 pub tail-small : (masks : List ℕ) → length (maskTail masks) ≤ 16
 tail-small masks = go (hasAlphaMask masks) refl

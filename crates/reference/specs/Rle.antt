@@ -74,6 +74,7 @@ literal8 row i out val abs =
       block ← range row i end
       done (record { i = end; out = padOdd abs (extend (push (push out 0) (cast u8 abs)) block) }))
 
+-- a turn of `while i < n`
 unfoldable pub turn8 : List ℕ → Coder → Run Coder
 turn8 row s = do
   val ← at row (s .i)
@@ -116,6 +117,7 @@ pairTurn row start abs m out = do
   byte ← nibbles hi lo
   done (push out byte)
 
+-- the same of nibbles
 unfoldable pub literal4 : List ℕ → ℕ → List ℕ → ℕ → ℕ → Run Coder
 literal4 row i out v0 abs =
     cond (ltb abs 3)
@@ -129,6 +131,7 @@ literal4 row i out v0 abs =
       end ← add usize i abs
       done (record { i = end; out = padOdd ((abs + 1) / 2) codes }))
 
+-- a turn of `while i < n`
 unfoldable pub turn4 : List ℕ → Coder → Run Coder
 turn4 row s = do
   v0 ← nibble row (s .i)
