@@ -1,13 +1,13 @@
 -- Laws of blocks and of a row's codes.
-use mathlib.Core.Path.{_≡_, refl, ap, _∙_}
-use mathlib.Core.Bool.{Bool, true, false, cond}
+use mathlib.Core.Path.{_≡_, refl, sym, ap, _∙_}
+use mathlib.Core.Bool.{Bool, true, false, not, cond}
 use mathlib.Core.List.{List, [], _∷_, _++_}
 use Prim.Native.Nat.{ℕ, zero, suc, _+_, _-_, _*_, _/_, _≤_, _<_}
 use native.Mathlib.Nat.{mul-le-mul-left}
 use native.Mathlib.Numerals.{add-one}
 use native.Mathlib.Omega.{arith}
-use borrow.Author.Tests.{ltb-true, lt-ltb, le-ltb}
-use lib.Dec.{ltb}
+use borrow.Author.Tests.{ltb-true, lt-ltb, le-ltb, eq-eqb, ne-eqb}
+use lib.Dec.{ltb, eqb}
 use lib.ListN.{length, getD, drop, length-append, length-drop, drop-of-length-le}
 use lib.Seq.{drop-cons, drop-drop}
 use Rattle.rows.specs.declared.rle.Block.{Block}
@@ -15,7 +15,7 @@ use Rattle.rows.specs.declared.rle.Block.the-variants.{Pair, Absolute}
 use Rattle.rows.specs.Packing.{packed}
 use Rattle.rows.specs.RleCodes.{depthOf, cells, scan, lone, same, runLength, gatherLength, choose, block, blockAt, width, bytes, size, codes, rowCodes}
 use Rattle.leaves.proofs.ListLaws.{length-tab}
-use Rattle.rows.proofs.Scans.{length-cells}
+use Rattle.rows.proofs.Scans.{length-cells, scan-step}
 
 pub depth-le : (four : Bool) → depthOf four ≤ 8
 depth-le true = omega arith
@@ -42,6 +42,19 @@ scanned on n (x ∷ xs) h = go (ltb n 255) refl (on x xs) (λ k. scanned on (n +
         let k = ltb-true n 255 e in
         let s = f (omega arith) in
         omega arith
+
+-- where a run is of one cell, the next is another
+pub run-one : (d : ℕ) (row : List ℕ) (at : ℕ) → at + 1 < length row → runLength (getD (cells d row) at 0) (drop (at + 1) (cells d row)) ≤ 1
+    → not (eqb (getD (cells d row) at 0) (getD (cells d row) (at + 1) 0)) ≡ true
+run-one d row at h r =
+    let v = getD (cells d row) at 0 in
+    let w = getD (cells d row) (at + 1) 0 in
+    ap not
+    (ne-eqb v w
+    (λ e.
+    let s = scan-step (same v) d row 1 (at + 1) (at + 2) (omega arith) h (omega arith) (eq-eqb w v (sym e)) in
+    let m = scanned (same v) 2 (drop (at + 2) (cells d row)) (omega arith) .more in
+    omega (arith, s, m)))
 
 -- ---- blocks
 

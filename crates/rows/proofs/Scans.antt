@@ -10,9 +10,9 @@ use borrow.Author.Tests.{ltb-true, ltb-false, lt-ltb, le-ltb, eqb-true, eq-eqb, 
 use lib.Dec.{ltb, eqb}
 use lib.ListN.{length, getD, drop, drop-of-length-le, length-map, List·getD-map}
 use lib.Seq.{drop-cons}
-use Rattle.rows.specs.RleCodes.{cells, scan, twin, same, lone, runLength}
+use Rattle.rows.specs.RleCodes.{cells, scan, twin, same, lone, runLength, gatherLength}
 use Rattle.rows.specs.Words.{leading}
-use Rattle.rows.proofs.WordLaws.{leading-all}
+use Rattle.rows.proofs.WordLaws.{leading-first, leading-all}
 
 pub scan-full : (on : ℕ → List ℕ → Bool) (n : ℕ) (xs : List ℕ) → 255 ≤ n → scan on n xs ≡ n
 unfolding scan
@@ -111,6 +111,23 @@ module _ (d : ℕ) (row : List ℕ) (n p r : ℕ) (e : r ≡ leading (λ i. not 
   pub lone-on : 8 ≤ r → scan lone n (drop p (cells d row)) ≡ scan lone (n + 8) (drop (p + 8) (cells d row))
   lone-on h = leap-on lone d row _ 8 n p lone-at (omega arith) few (rw e at h)
 
+-- of eight cells the first, which differs from the next, is gathered already
+module _ (d : ℕ) (row : List ℕ) (at r : ℕ) (e : r ≡ leading (λ i. not (eqb (getD (cells d row) i 0) (getD (cells d row) (i + 1) 0))) at 8)
+    (fits : at + 8 < length row) (first : not (eqb (getD (cells d row) at 0) (getD (cells d row) (at + 1) 0)) ≡ true) where
+  after : r ≡ suc (leading (λ i. not (eqb (getD (cells d row) i 0) (getD (cells d row) (i + 1) 0))) (at + 1) 7)
+  after = e ∙ leading-first _ at 7 first
+
+  seven : (i : ℕ) → at + 1 ≤ i → i < at + 1 + 7 → lone (getD (cells d row) i 0) (drop (i + 1) (cells d row)) ≡ not (eqb (getD (cells d row) i 0) (getD (cells d row) (i + 1) 0))
+  seven i a b = lone-at d row 1 at r e fits (omega arith) i (omega arith) (omega arith)
+
+  pub first-stop : r < 8 → r ≡ gatherLength (drop (at + 1) (cells d row))
+  first-stop h = after ∙ sym (leap-stop lone d row _ 7 1 (at + 1) seven (omega arith) (omega arith) (omega (arith, after)) ∙ omega arith)
+
+  pub first-on : 8 ≤ r → gatherLength (drop (at + 1) (cells d row)) ≡ scan lone 8 (drop (at + 8) (cells d row))
+  first-on h =
+      let q : at + 1 + 7 ≡ at + 8 = omega arith in
+      rw q at (leap-on lone d row _ 7 1 (at + 1) seven (omega arith) (omega arith) (omega (arith, after)))
+
 -- as far as each is the same as the one before, where the one before is v: as far as each is v
 same-before : (xs : List ℕ) (v m k : ℕ) → getD xs k 0 ≡ v → leading (λ i. eqb (getD xs (i + 1) 0) (getD xs i 0)) k m ≡ leading (λ i. eqb (getD xs i 0) v) (k + 1) m
 unfolding leading
@@ -177,3 +194,14 @@ module _ (d : ℕ) (row : List ℕ) (at n : ℕ) (s : Running d row at n) where
           last = eqb-true _ _ (leading-all _ (at + n) 8 (rw same-eight at h) (at + (n + 8) - 1) (omega arith) (omega arith));
           rest = s .rest ∙ leap-on _ d row _ 8 n (at + n) (λ i a b. refl) fits few (rw same-eight at h) ∙ rw p;
         }
+
+-- so from the start on
+module _ (d : ℕ) (row : List ℕ) (at r : ℕ) (e : r ≡ leading (λ i. eqb (getD (cells d row) (i + 1) 0) (getD (cells d row) i 0)) at 8) (fits : at + 8 < length row) where
+  here : r ≡ leading (λ i. eqb (getD (cells d row) (i + 1) 0) (getD (cells d row) i 0)) (at + 1 - 1) 8
+  here = let p : at + 1 - 1 ≡ at = omega arith in rw p e
+
+  pub run-first-stop : r < 8 → 1 + r ≡ runLength (getD (cells d row) at 0) (drop (at + 1) (cells d row))
+  run-first-stop = run-eight-stop d row at 1 (run-start d row at (omega arith)) r here (omega arith) (omega arith)
+
+  pub run-first-on : 8 ≤ r → Running d row at 9
+  run-first-on = run-eight-on d row at 1 (run-start d row at (omega arith)) r here (omega arith) (omega arith)

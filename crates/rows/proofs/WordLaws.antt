@@ -27,6 +27,10 @@ unfolding leading
 leading-ext t u h k zero = refl
 leading-ext t u h k (suc n) = rw (h k, leading-ext t u h (k + 1) n)
 
+pub leading-first : (t : ℕ → Bool) (k n : ℕ) → t k ≡ true → leading t k (suc n) ≡ suc (leading t (k + 1) n)
+unfolding leading
+leading-first t k n h = rw h
+
 -- where all pass, each does
 pub leading-all : (t : ℕ → Bool) (k n : ℕ) → n ≤ leading t k n → (i : ℕ) → k ≤ i → i < k + n → t i ≡ true
 unfolding leading

@@ -1,9 +1,9 @@
 // The row coders, the stream's count and the stream writer (the Rust's encoder.rs, section on RLE).
 ghost use mathlib.Core.Path.{_≡_};
-ghost use mathlib.Core.Bool.{not, cond};
+ghost use mathlib.Core.Bool.{Bool, not, cond};
 ghost use mathlib.Core.Logic.{_⊎_};
-ghost use mathlib.Core.List.{[], _∷_, _++_};
-ghost use Prim.Native.Nat.{_+_, _-_, _*_, _<_, _≤_, _^_, min};
+ghost use mathlib.Core.List.{List, [], _∷_, _++_};
+ghost use Prim.Native.Nat.{ℕ, _+_, _-_, _*_, _<_, _≤_, _^_, min};
 ghost use lib.Bits.{bitXor};
 ghost use lib.Dec.{eqb};
 ghost use lib.ListN.{length, getD, take, drop};
@@ -98,22 +98,31 @@ fn differences(row: &[u8], k: usize, four: bool) -> u64
     (le64(row, k) ^ le64(row, k + 1)) & (cell_mask(four) as u64 * 0x0101010101010101)
 }
 
-// How many of the eight cells after `k` are the same as the one before, up to the first that is not.
-fn same_cells(row: &[u8], k: usize, four: bool) -> usize
-    requires { ⌜ k + 8 < length (now row) ⌝ }
-    ensures { λ r. ⌜ r ≡ leading (λ i. eqb (getD (cells (depthOf four) (now (row .entry))) (i + 1) 0) (getD (cells (depthOf four) (now (row .entry))) i 0)) k 8 ⌝ }
+// The same, or 0 where the row has not so many cells left.
+fn first_differences(row: &[u8], k: usize, four: bool) -> u64
+    requires { ⌜ k < length (now row) ⌝ }
+    ensures { λ r. ⌜ (k + 8 < length (now (row .entry)) → r ≡ word (λ i. bitXor (getD (cells (depthOf four) (now (row .entry))) i 0) (getD (cells (depthOf four) (now (row .entry))) (i + 1) 0)) k 8) ⌝ }
 {
-    let x = differences(row, k, four);
+    if row.len() - k > 8 {
+        return differences(row, k, four);
+    }
+    0
+}
+
+// How many of the eight cells after a place are the same as the one before, up to the first that is not,
+// where `x` are the differences there.
+fn same_of(x: u64) -> usize
+    ensures { λ r. ⌜ ((four : Bool) (row : List ℕ) (k : ℕ) → x ≡ word (λ i. bitXor (getD (cells (depthOf four) row) i 0) (getD (cells (depthOf four) row) (i + 1) 0)) k 8 → r ≡ leading (λ i. eqb (getD (cells (depthOf four) row) (i + 1) 0) (getD (cells (depthOf four) row) i 0)) k 8) ⌝ }
+{
     (u64::trailing_zeros(x) / 8) as usize
 }
 
-// How many of the eight cells from `k` on are not the same as the next, up to the first that is: adding
-// 127 to a byte's low seven bits sets its high bit where one of them is set.
-fn lone_cells(row: &[u8], k: usize, four: bool) -> usize
-    requires { ⌜ k + 8 < length (now row) ⌝ }
-    ensures { λ r. ⌜ r ≡ leading (λ i. not (eqb (getD (cells (depthOf four) (now (row .entry))) i 0) (getD (cells (depthOf four) (now (row .entry))) (i + 1) 0))) k 8 ⌝ }
+// How many of the eight cells from a place on are not the same as the next, up to the first that is, where
+// `x` are the differences there: adding 127 to a byte's low seven bits sets its high bit where one of them
+// is set.
+fn lone_of(x: u64) -> usize
+    ensures { λ r. ⌜ ((four : Bool) (row : List ℕ) (k : ℕ) → x ≡ word (λ i. bitXor (getD (cells (depthOf four) row) i 0) (getD (cells (depthOf four) row) (i + 1) 0)) k 8 → r ≡ leading (λ i. not (eqb (getD (cells (depthOf four) row) i 0) (getD (cells (depthOf four) row) (i + 1) 0))) k 8) ⌝ }
 {
-    let x = differences(row, k, four);
     let low = 0x7F7F7F7F7F7F7F7F;
     let high = 0x8080808080808080;
     let zeros = (((x & low) + low) | x) & high ^ high;
@@ -130,16 +139,28 @@ fn most_cells(left: usize) -> usize
     255
 }
 
-// How many indices are gathered from `at` on: eight at a time as far as they fit.
-fn gather(row: &[u8], at: usize, four: bool) -> usize
-    requires { ⌜ at < length (now row) ⌝ }
+// How many indices are gathered from `at` on, where no run starts and `x` are the differences: eight at a
+// time as far as they fit.
+fn gather(row: &[u8], at: usize, four: bool, x: u64) -> usize
+    requires { ⌜
+        (at < length (now row))
+        × (runLength (getD (cells (depthOf four) (now row)) at 0) (drop (at + 1) (cells (depthOf four) (now row))) ≤ 1)
+        × (at + 8 < length (now row) → x ≡ word (λ i. bitXor (getD (cells (depthOf four) (now row)) i 0) (getD (cells (depthOf four) (now row)) (i + 1) 0)) at 8)
+        ⌝ }
     ensures { λ r. ⌜ r ≡ gatherLength (drop (at + 1) (cells (depthOf four) (now (row .entry)))) ⌝ }
 {
     let most = most_cells(row.len() - at);
     let mut count: usize = 1;
+    if most > 8 {
+        let lone = lone_of(x);
+        if lone < 8 {
+            return lone;
+        }
+        count = 8;
+    }
     loop {
         if most - count > 8 {
-            let lone = lone_cells(row, at + count, four);
+            let lone = lone_of(differences(row, at + count, four));
             if lone < 8 {
                 break count + lone;
             }
@@ -161,19 +182,20 @@ fn gather(row: &[u8], at: usize, four: bool) -> usize
     }
 }
 
-// The block at `at`, where a run of `run` cells `v` starts.
-fn block_from(row: &[u8], at: usize, four: bool, v: usize, run: usize) -> Block
+// The block at `at`, where a run of `run` cells `v` starts; if it is one cell, `x` are the differences.
+fn block_from(row: &[u8], at: usize, four: bool, v: usize, run: usize, x: u64) -> Block
     requires { ⌜
         (at < length (now row))
         × (v ≡ getD (cells (depthOf four) (now row)) at 0)
         × (run ≡ runLength (getD (cells (depthOf four) (now row)) at 0) (drop (at + 1) (cells (depthOf four) (now row))))
+        × (run ≤ 1 → at + 8 < length (now row) → x ≡ word (λ i. bitXor (getD (cells (depthOf four) (now row)) i 0) (getD (cells (depthOf four) (now row)) (i + 1) 0)) at 8)
         ⌝ }
     ensures { λ r. ⌜ r ≡ blockAt (cells (depthOf four) (now (row .entry))) at ⌝ }
 {
     if 1 < run {
         return Block::Pair(run, v, v);
     }
-    let gathered = gather(row, at, four);
+    let gathered = gather(row, at, four, x);
     if 2 < gathered {
         return Block::Absolute(gathered);
     }
@@ -219,16 +241,28 @@ impl Block {
     }
 }
 
-// How many cells equal to `v` start at `at`, the first of which is one, at most 255: eight at a time as far as they fit.
-fn run_length(row: &[u8], at: usize, four: bool, v: usize) -> usize
-    requires { ⌜ (at < length (now row)) × (v ≡ getD (cells (depthOf four) (now row)) at 0) ⌝ }
+// How many cells equal to `v` start at `at`, the first of which is one and where `x` are the differences, at
+// most 255: eight at a time as far as they fit.
+fn run_length(row: &[u8], at: usize, four: bool, v: usize, x: u64) -> usize
+    requires { ⌜
+        (at < length (now row))
+        × (v ≡ getD (cells (depthOf four) (now row)) at 0)
+        × (at + 8 < length (now row) → x ≡ word (λ i. bitXor (getD (cells (depthOf four) (now row)) i 0) (getD (cells (depthOf four) (now row)) (i + 1) 0)) at 8)
+        ⌝ }
     ensures { λ r. ⌜ r ≡ runLength (getD (cells (depthOf four) (now (row .entry))) at 0) (drop (at + 1) (cells (depthOf four) (now (row .entry)))) ⌝ }
 {
     let most = most_cells(row.len() - at);
     let mut count: usize = 1;
+    if most > 8 {
+        let same = same_of(x);
+        if same < 8 {
+            return 1 + same;
+        }
+        count = 9;
+    }
     loop {
         if most - count > 7 {
-            let same = same_cells(row, at + count - 1, four);
+            let same = same_of(differences(row, at + count - 1, four));
             if same < 8 {
                 break count + same;
             }
@@ -258,8 +292,9 @@ fn one_block(row: &[u8], at: usize, four: bool) -> Coded
     ensures { λ r. ⌜ Coding (depthOf four) (now (row .entry)) at (r .cells) (r .bytes) ⌝ }
 {
     let v = cell(row, at, four);
-    let run = run_length(row, at, four, v);
-    let b = block_from(row, at, four, v, run);
+    let x = first_differences(row, at, four);
+    let run = run_length(row, at, four, v, x);
+    let b = block_from(row, at, four, v, run, x);
     let bytes = b.len(four);
     let cells = b.width();
     Coded { bytes, cells }
@@ -363,7 +398,7 @@ fn put_block(row: &[u8], i: usize, four: bool, b: Block, buf: &mut [u8], at: usi
 }
 
 // Writes a row's codes from `at` on, and returns the place after them. A run's cells are counted eight at
-// a time as far as they fit.
+// a time as far as they fit; the first eight differences serve the gathering too.
 fn encode_rle_row(row: &[u8], four: bool, buf: &mut [u8], at: usize) -> usize
     requires { ⌜ at + length (rowCodes (depthOf four) (now row)) ≤ length (now buf) ⌝ }
     ensures { λ r. ⌜
@@ -377,13 +412,15 @@ fn encode_rle_row(row: &[u8], four: bool, buf: &mut [u8], at: usize) -> usize
         let v = cell(row, i, four);
         let most = most_cells(row.len() - i);
         let mut count: usize = 1;
+        let mut x = first_differences(row, i, four);
         let run = loop {
             if most - count > 7 {
-                let same = same_cells(row, i + count - 1, four);
+                let same = same_of(x);
                 if same < 8 {
                     break count + same;
                 }
                 count += 8;
+                x = first_differences(row, i + count - 1, four);
             } else {
                 if most <= count {
                     break count;
@@ -395,7 +432,7 @@ fn encode_rle_row(row: &[u8], four: bool, buf: &mut [u8], at: usize) -> usize
                 count += 1;
             }
         };
-        let b = block_from(row, i, four, v, run);
+        let b = block_from(row, i, four, v, run, x);
         o = put_block(row, i, four, b, buf, o);
         i += b.width();
     }

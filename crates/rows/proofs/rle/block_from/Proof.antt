@@ -16,7 +16,9 @@ returns c =
     Codes.block-run xs (s .args .at) _ _ (s .pre .2) (s .pre .1) (c .if1 .taken)
 
 gather-requires : tie.Need-gather-requires
-gather-requires c κs = omega arith
+gather-requires c κs =
+    let s = c .before .before in
+    (omega arith, omega (arith, s .pre .2), s .pre .3 (omega arith))
 
 returns-2 : tie.Need-returns-2
 returns-2 c =

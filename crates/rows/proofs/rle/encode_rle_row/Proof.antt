@@ -1,10 +1,14 @@
 use mathlib.Core.Path.{_≡_, refl, sym, _∙_, ap}
+use mathlib.Core.Bool.{Bool}
+use mathlib.Core.List.{List}
 use mathlib.Core.Logic.{⊎-elim}
-use Prim.Native.Nat.{_+_, _-_, _≤_}
+use Prim.Native.Nat.{ℕ, _+_, _-_, _≤_, _<_}
 use native.Mathlib.Omega.{arith}
-use lib.ListN.{length, drop}
+use lib.Bits.{bitXor}
+use lib.ListN.{length, getD, drop}
 use Rattle.leaves.specs.Put.{put}
 use Rattle.rows.specs.RleCodes.{depthOf, cells, codes, rowCodes}
+use Rattle.rows.specs.Words.{word}
 use Rattle.rows.proofs.RleBlocks.{depth-le}
 use Rattle.rows.proofs.RleBytes.{block-fits, turn-put}
 use Rattle.rows.proofs.RleBlocks as Codes
@@ -13,11 +17,17 @@ use Rattle.leaves.proofs.Puts as Puts
 use Rattle.rows.proofs.rle.encode_rle_row.Statement.{statement}
 use Rattle.rows.proofs.rle.encode_rle_row.Tie as tie
 
+-- the differences from a place on
+abbrev differing : Bool → List ℕ → ℕ → ℕ
+differing four row k = word (λ i. bitXor (getD (cells (depthOf four) row) i 0) (getD (cells (depthOf four) row) (i + 1) 0)) k 8
+
 abbrev Inv-loop2 : tie.InvT-loop2
-Inv-loop2 row four buf at o i v most count₀ count = Laws.Running (depthOf four) row i count
+Inv-loop2 row four buf at o i v most count₀ x₀ count x = Laws.Running (depthOf four) row i count
+    × (7 < most - count → x ≡ differing four row (i + count - 1))
+    × (count ≤ 1 → i + 8 < length row → x ≡ differing four row i)
 
 abbrev μ-loop2 : tie.MeasureT-loop2
-μ-loop2 row four buf at o i v most count₀ count = length row - count
+μ-loop2 row four buf at o i v most count₀ x₀ count x = length row - count
 
 abbrev Inv-loop : tie.InvT-loop
 Inv-loop row four buf₀ at o₀ i₀ buf o i = (i ≤ length row)
@@ -41,20 +51,20 @@ sub-most-cells c = omega arith
 most-cells-requires : tie.Need-most-cells-requires Inv-loop2 μ-loop2 Inv-loop μ-loop
 most-cells-requires c κs = omega arith
 
+first-differences-requires : tie.Need-first-differences-requires Inv-loop2 μ-loop2 Inv-loop μ-loop
+first-differences-requires c κs = omega arith
+
 loop2-holds : tie.Need-loop2-holds Inv-loop2 μ-loop2 Inv-loop μ-loop
-loop2-holds c = Laws.run-start _ _ _ (omega arith)
+loop2-holds c =
+    let i = c .before .before .before .before .loop .i in
+    let p : i + 1 - 1 ≡ i = omega arith in
+    (Laws.run-start _ _ _ (omega arith), λ m. rw p (c .first-differences .ensures (omega arith)), λ _. c .first-differences .ensures)
 
 sub-if1 : tie.Need-sub-if1 Inv-loop2 μ-loop2 Inv-loop μ-loop
 sub-if1 c = omega arith
 
-add-same-cells : tie.Need-add-same-cells Inv-loop2 μ-loop2 Inv-loop μ-loop
-add-same-cells c = omega arith
-
-sub-same-cells : tie.Need-sub-same-cells Inv-loop2 μ-loop2 Inv-loop μ-loop
-sub-same-cells c = omega arith
-
-same-cells-requires : tie.Need-same-cells-requires Inv-loop2 μ-loop2 Inv-loop μ-loop
-same-cells-requires c κs = omega arith
+same-of-requires : tie.Need-same-of-requires Inv-loop2 μ-loop2 Inv-loop μ-loop
+same-of-requires c κs = tt
 
 add-run : tie.Need-add-run Inv-loop2 μ-loop2 Inv-loop μ-loop
 add-run c = omega arith
@@ -62,14 +72,28 @@ add-run c = omega arith
 add-count : tie.Need-add-count Inv-loop2 μ-loop2 Inv-loop μ-loop
 add-count c = omega arith
 
+add-first-differences : tie.Need-add-first-differences Inv-loop2 μ-loop2 Inv-loop μ-loop
+add-first-differences c = omega arith
+
+sub-first-differences : tie.Need-sub-first-differences Inv-loop2 μ-loop2 Inv-loop μ-loop
+sub-first-differences c = omega arith
+
+first-differences-requires-2 : tie.Need-first-differences-requires-2 Inv-loop2 μ-loop2 Inv-loop μ-loop
+first-differences-requires-2 c κs = omega arith
+
 loop2-less : tie.Need-loop2-less Inv-loop2 μ-loop2 Inv-loop μ-loop
 loop2-less c = omega arith
 
 loop2-again : tie.Need-loop2-again Inv-loop2 μ-loop2 Inv-loop μ-loop
 loop2-again c =
-    let a = c .before .before .before .before .before .before .before .before .before .before .args in
-    let l = c .before .before .before .loop2 in
-    Laws.run-eight-on (depthOf (a .four)) (a .row .now) (c .before .before .before .before .before .before .before .loop .i) (l .count) (l .inv) (c .before .same-cells .result) (c .before .same-cells .ensures) (omega arith) (omega arith) (c .if2 .left)
+    let a = c .before .before .before .before .before .before .before .before .before .before .before .before .args in
+    let i = c .before .before .before .before .before .before .before .before .before .loop .i in
+    let l = c .before .before .before .before .loop2 in
+    let s = c .before .before .same-of in (
+      Laws.run-eight-on (depthOf (a .four)) (a .row .now) i (l .count) (l .inv .0) (s .result) (s .ensures (a .four) (a .row .now) (i + l .count - 1) (l .inv .1 (omega arith))) (omega arith) (omega arith) (c .before .if2 .left),
+      λ m. c .first-differences2 .ensures (omega arith),
+      λ m. absurd (omega arith),
+    )
 
 add-cell : tie.Need-add-cell Inv-loop2 μ-loop2 Inv-loop μ-loop
 add-cell c = omega arith
@@ -85,60 +109,67 @@ loop2-less-2 c = omega arith
 
 loop2-again-2 : tie.Need-loop2-again-2 Inv-loop2 μ-loop2 Inv-loop μ-loop
 loop2-again-2 c =
-    let a = c .before .before .before .before .before .before .before .before .before .before .before .args in
+    let a = c .before .before .before .before .before .before .before .before .before .before .before .before .args in
+    let i = c .before .before .before .before .before .before .before .before .before .loop .i in
     let l = c .before .before .before .before .loop2 in
-    Laws.run-on (depthOf (a .four)) (a .row .now) (c .before .before .before .before .before .before .before .before .loop .i) (l .count) (l .inv) (omega arith) (c .before .before .before .before .before .before .cell .result) (c .before .cell2 .result) (c .before .before .before .before .before .before .cell .ensures .0) (c .before .cell2 .ensures .0) (omega arith) (c .if4 .left)
+    let v = c .before .before .before .before .before .before .before .cell in
+    let w = c .before .cell2 in (
+      Laws.run-on (depthOf (a .four)) (a .row .now) i (l .count) (l .inv .0) (omega arith) (v .result) (w .result) (v .ensures .0) (w .ensures .0) (omega arith) (c .if4 .left),
+      λ m. absurd (omega arith),
+      λ m. absurd (omega arith),
+    )
 
 block-from-requires : tie.Need-block-from-requires Inv-loop2 μ-loop2 Inv-loop μ-loop
 block-from-requires c κs =
-    let a = c .before .before .before .before .before .before .before .before .args in
-    let i = c .before .before .before .before .before .loop .i in
+    let a = c .before .before .before .before .before .before .before .before .before .args in
+    let i = c .before .before .before .before .before .before .loop .i in
     let l = c .before .loop2 in
-    let m = c .before .before .most-cells in
-    let v = c .before .before .before .cell in (
+    let m = c .before .before .before .most-cells in
+    let v = c .before .before .before .before .cell in (
       omega arith,
       v .ensures .0,
       ⊎-elim
-          (λ k. k .3 ∙ Laws.run-eight-stop (depthOf (a .four)) (a .row .now) i (l .count) (l .inv) (k .1 .result) (k .1 .ensures) (omega arith) (omega arith) (k .2 .taken))
+          (λ k. k .3 ∙ Laws.run-eight-stop (depthOf (a .four)) (a .row .now) i (l .count) (l .inv .0) (k .1 .result) (k .1 .ensures (a .four) (a .row .now) (i + l .count - 1) (l .inv .1 (omega arith))) (omega arith) (omega arith) (k .2 .taken))
           (⊎-elim
-          (λ k. k .2 ∙ Laws.run-end (depthOf (a .four)) (a .row .now) i (l .count) (l .inv) (m .result) (m .ensures) (k .1 .taken))
-          (λ k. k .4 ∙ Laws.run-stop (depthOf (a .four)) (a .row .now) i (l .count) (l .inv) (omega arith) (v .result) (k .2 .result) (v .ensures .0) (k .2 .ensures .0) (k .3 .taken)))
+          (λ k. k .2 ∙ Laws.run-end (depthOf (a .four)) (a .row .now) i (l .count) (l .inv .0) (m .result) (m .ensures) (k .1 .taken))
+          (λ k. k .4 ∙ Laws.run-stop (depthOf (a .four)) (a .row .now) i (l .count) (l .inv .0) (omega arith) (v .result) (k .2 .result) (v .ensures .0) (k .2 .ensures .0) (k .3 .taken)))
           (c .if1 .came),
+      λ r. l .inv .2 (⊎-elim (λ k. omega arith) (⊎-elim (λ k. omega arith) (λ k. omega arith)) (c .if1 .came)),
     )
 
 put-block-requires : tie.Need-put-block-requires Inv-loop2 μ-loop2 Inv-loop μ-loop
 put-block-requires c κs =
-    let a = c .before .before .before .before .before .before .before .before .before .before .args in
-    let l = c .before .before .before .before .before .before .before .loop in
+    let a = c .before .before .before .before .before .before .before .before .before .before .before .args in
+    let l = c .before .before .before .before .before .before .before .before .loop in
     let b = c .before .block-from in
-    (c .before .before .before .before .before .before .loop-test .taken, b .ensures, block-fits (depthOf (a .four)) (depth-le (a .four)) (a .row .now) (l .i) (c .before .before .before .before .before .before .loop-test .taken) (b .result) (b .ensures) (l .o) (a .at) (length (l .buf)) (l .inv .2) (omega arith))
+    (c .before .before .before .before .before .before .before .loop-test .taken, b .ensures, block-fits (depthOf (a .four)) (depth-le (a .four)) (a .row .now) (l .i) (c .before .before .before .before .before .before .before .loop-test .taken) (b .result) (b .ensures) (l .o) (a .at) (length (l .buf)) (l .inv .2) (omega arith))
 
 width-requires : tie.Need-width-requires Inv-loop2 μ-loop2 Inv-loop μ-loop
 width-requires c κs = tt
 
 add-i : tie.Need-add-i Inv-loop2 μ-loop2 Inv-loop μ-loop
 add-i c =
-    let a = c .before .before .before .before .before .before .before .before .before .before .before .before .before .before .args in
-    let l = c .before .before .before .before .before .before .before .before .before .before .before .loop in
+    let a = c .before .before .before .before .before .before .before .before .before .before .before .before .before .before .before .args in
+    let l = c .before .before .before .before .before .before .before .before .before .before .before .before .loop in
     let b = c .before .before .before .before .before .block-from in
-    let s = Codes.sound-at (depthOf (a .four)) (depth-le (a .four)) (a .row .now) (l .i) (c .before .before .before .before .before .before .before .before .before .before .loop-test .taken) (b .result) (b .ensures) in
+    let s = Codes.sound-at (depthOf (a .four)) (depth-le (a .four)) (a .row .now) (l .i) (c .before .before .before .before .before .before .before .before .before .before .before .loop-test .taken) (b .result) (b .ensures) in
     omega arith
 
 loop-less : tie.Need-loop-less Inv-loop2 μ-loop2 Inv-loop μ-loop
 loop-less c =
-    let a = c .before .before .before .before .before .before .before .before .before .before .before .before .before .before .args in
-    let l = c .before .before .before .before .before .before .before .before .before .before .before .loop in
+    let a = c .before .before .before .before .before .before .before .before .before .before .before .before .before .before .before .args in
+    let l = c .before .before .before .before .before .before .before .before .before .before .before .before .loop in
     let b = c .before .before .before .before .before .block-from in
-    let s = Codes.sound-at (depthOf (a .four)) (depth-le (a .four)) (a .row .now) (l .i) (c .before .before .before .before .before .before .before .before .before .before .loop-test .taken) (b .result) (b .ensures) in
+    let s = Codes.sound-at (depthOf (a .four)) (depth-le (a .four)) (a .row .now) (l .i) (c .before .before .before .before .before .before .before .before .before .before .before .loop-test .taken) (b .result) (b .ensures) in
     omega arith
 
 loop-again : tie.Need-loop-again Inv-loop2 μ-loop2 Inv-loop μ-loop
 loop-again c =
-    let a = c .before .before .before .before .before .before .before .before .before .before .before .before .before .before .args in
-    let l = c .before .before .before .before .before .before .before .before .before .before .before .loop in
+    let a = c .before .before .before .before .before .before .before .before .before .before .before .before .before .before .before .args in
+    let l = c .before .before .before .before .before .before .before .before .before .before .before .before .loop in
     let b = c .before .before .before .before .before .block-from in
     let p = c .before .before .before .put-block in
-    let t = turn-put (depthOf (a .four)) (depth-le (a .four)) (a .row .now) (l .i) (c .before .before .before .before .before .before .before .before .before .before .loop-test .taken) (b .result) (b .ensures)
+    let t = turn-put (depthOf (a .four)) (depth-le (a .four)) (a .row .now) (l .i) (c .before .before .before .before .before .before .before .before .before .before .before .loop-test .taken) (b .result) (b .ensures)
     (l .o) (a .at) (length (l .buf)) (l .inv .2) (omega arith) (a .buf .now) (l .buf) (p .last .1 .1 .1 .1 .0) (p .result) (c .width .result) (p .ensures .1) (p .ensures .0) (c .width .ensures) refl (l .inv .3) in
     (t .0, p .kept .1 .1 .1 .1 .0 ∙ l .inv .1, t .1, t .2)
 
@@ -164,13 +195,15 @@ encode-rle-row-spec =
     cell-requires
     sub-most-cells
     most-cells-requires
+    first-differences-requires
     loop2-holds
     sub-if1
-    add-same-cells
-    sub-same-cells
-    same-cells-requires
+    same-of-requires
     add-run
     add-count
+    add-first-differences
+    sub-first-differences
+    first-differences-requires-2
     loop2-less
     loop2-again
     add-cell
