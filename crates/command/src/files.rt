@@ -1,6 +1,10 @@
 // Whole files, and the checksum that `cksum` prints.
 ghost use mathlib.Core.Path.{_≡_};
+ghost use mathlib.Core.Bool.{false};
+ghost use Prim.Native.Nat.{_<_};
+ghost use lib.ListN.{length};
 ghost use Rattle.io.specs.Counts.{Counts};
+ghost use Rattle.command.specs.Commands.{Within};
 ghost use Rattle.command.specs.Checksum.{crcByte, crcOf, bytesIn, cksum};
 use arguments::words::part;
 
@@ -11,8 +15,10 @@ pub enum FileRead {
     Failed,
 }
 
-// Reads a file into buf.
-pub fn read_file(path: &[u8], buf: &mut [u8]) -> FileRead {
+// Reads a file into buf. What the file holds, and whether it can be read, is free; so many bytes stand in buf.
+pub fn read_file(path: &[u8], buf: &mut [u8]) -> FileRead
+    ensures { λ r. ⌜ Within r (length (now (buf .exit))) ⌝ }
+{
     let fd = os::open_read(path);
     if fd < 0 {
         return FileRead::Failed;
@@ -78,8 +84,14 @@ fn write_then_rename(path: &[u8], while_written: &[u8], bytes: &[u8]) -> bool {
     false
 }
 
-// Writes a file, or leaves the one of that name as it is.
-pub fn save(path: &[u8], bytes: &[u8]) -> bool {
+// Writes a file, or leaves the one of that name as it is. Whether it can be written is free, but a name that
+// is too long never is.
+pub fn save(path: &[u8], bytes: &[u8]) -> bool
+    ensures { λ r. ⌜ (4000 < length (now (path .entry)) → r ≡ false) ⌝ }
+{
+    if path.len() > 4000 {
+        return false;
+    }
     let mut space = io::buffer();
     let name: &mut [u8] = &mut space;
     let n = name_while_written(path, name);

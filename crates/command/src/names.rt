@@ -4,11 +4,11 @@ use leaves::encoder::EncodedBmpFormat;
 use leaves::error::Refusal;
 use libc::STDOUT_FILENO;
 
-pub fn text(words: &[u8]) {
+pub(crate) fn text(words: &[u8]) {
     io::write_all(STDOUT_FILENO, words);
 }
 
-pub fn decimal(n: u64) {
+pub(crate) fn decimal(n: u64) {
     io::print_decimal(STDOUT_FILENO, n);
 }
 
@@ -30,7 +30,7 @@ fn written_number(format: EncodedBmpFormat) -> usize {
 }
 
 // What a file was written as.
-pub fn print_written(format: EncodedBmpFormat) {
+pub(crate) fn print_written(format: EncodedBmpFormat) {
     let names =
         b"Rgb32,Rgb24,Rgb16Rgb,Rgb16Bitfields,Indexed8,Indexed4,Indexed2,Rle8,Rle4,Indexed1,\
         Bitfields,AlphaBitfields";
@@ -38,7 +38,7 @@ pub fn print_written(format: EncodedBmpFormat) {
 }
 
 // A refusal's cause: the line of its number, from 1.
-pub fn print_cause(why: Refusal) {
+pub(crate) fn print_cause(why: Refusal) {
     let causes = b"
 width or height is 0
 width or height is over 2147483647

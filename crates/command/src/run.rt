@@ -1,6 +1,10 @@
 // The command's run.
+ghost use mathlib.Core.Path.{_≡_};
 ghost use Prim.Native.Nat.{_≤_};
 ghost use lib.ListN.{length};
+ghost use Rattle.arguments.specs.Words.{wordsOf};
+ghost use Rattle.command.specs.Checksum.{cksum};
+ghost use Rattle.command.specs.Commands.{isUnderstood};
 use crate::files::FileRead;
 use crate::files::checksum;
 use crate::files::read_file;
@@ -69,12 +73,16 @@ A picture whose file may take more than 4194304 bytes is refused.
 
 // ---- what is printed
 
-// How many bytes a file has, and its checksum.
-pub fn print_size(file: &[u8]) {
+// Prints how many bytes a file has, and its checksum, which is the answer.
+pub fn print_size(file: &[u8]) -> u32
+    ensures { λ r. ⌜ r ≡ cksum (now (file .entry)) ⌝ }
+{
+    let sum = checksum(file);
     decimal(file.len() as u64);
     text(b" bytes, cksum ");
-    decimal(checksum(file) as u64);
+    decimal(sum as u64);
     text(b"\n");
+    sum
 }
 
 fn print_file(name: &[u8], format: EncodedBmpFormat, file: &[u8]) {
@@ -263,20 +271,24 @@ fn encode_files(words: &[u8]) {
     }
 }
 
-// Runs a command's words, each with a 0 after it; none of them paints the sample.
-pub fn run(words: &[u8]) {
+// Runs a command's words, each with a 0 after it; none of them paints the sample. The answer is whether they
+// are understood; what becomes of the files is printed, and free here.
+pub fn run(words: &[u8]) -> bool
+    ensures { λ r. ⌜ r ≡ isUnderstood (wordsOf (now (words .entry))) ⌝ }
+{
     if words.len() == 0 {
         sample();
-        return;
+        return true;
     }
     if same(word(words, 0), b"--help") {
         help();
-        return;
+        return true;
     }
     let at = first_fault(words);
     if at < words.len() {
         print_fault(words, at);
-        return;
+        return false;
     }
     encode_files(words);
+    true
 }

@@ -8,10 +8,14 @@ use arguments::words::part;
 use arguments::words::same;
 use command::files::FileRead;
 use command::files::read_file;
-use command::names::text;
 use command::run::print_size;
 use command::run::run;
 use libc::STDIN_FILENO;
+use libc::STDOUT_FILENO;
+
+fn text(words: &[u8]) {
+    io::write_all(STDOUT_FILENO, words);
+}
 
 fn make_zeros(name: &[u8], n: u64) {
     if n > 0xFFFF_FFFF {
