@@ -36,7 +36,7 @@ fn surface(x: usize, y: usize) -> u8
 }
 
 // Puts the surface into a plane.
-pub fn paint(plane: &mut [u8]) {
+pub(crate) fn paint(plane: &mut [u8]) {
     let mut i = 0;
     while i < plane.len() {
         plane[i] = surface(i % SIDE, i / SIDE % SIDE);
@@ -91,7 +91,7 @@ fn shade(entry: usize, channel: usize) -> u8
     between(stop(n, channel), stop(n + 1, channel), f)
 }
 
-pub fn mix(palette: &mut [u8]) {
+pub(crate) fn mix(palette: &mut [u8]) {
     let mut i = 0;
     while i < palette.len() {
         palette[i] = shade(i / 4 % 256, i % 4);
