@@ -11,21 +11,23 @@ use lib.Bits.{bitAnd, and-zero-r}
 use lib.Dec.{eqb, leb, ltb}
 use lib.ListN.{length, getD}
 use lib.Pow.{pow-pos}
+use Rattle.leaves.specs.declared.encoder.EncodeSource.{EncodeSource}
+use Rattle.leaves.specs.declared.options.EncodeOptions.{EncodeOptions}
 use Rattle.leaves.specs.declared.error.Check.the-variants.{Passed}
 use Rattle.leaves.specs.declared.error.Refusal.{Refusal}
 use Rattle.leaves.specs.declared.error.Refusal.the-variants.{MaskSource, FileTooLarge, BufferTooShort, StreamOverBudget}
 use Rattle.leaves.specs.Lists.{cat}
 use Rattle.leaves.specs.Masks.{count, isOneRun, sharesBit, maskDepth, maskRows, bitfieldsRows}
 use Rattle.leaves.specs.Refusals.{firstOf, profileMode, dimensionRows, paletteRows, modeRows, planeRows}
-use Rattle.leaves.specs.Formats.{bytesPerPixel, isIndexed}
-use Rattle.format.specs.Accepted.{MasksAccepted, Accepted}
-use Rattle.format.specs.File.{rawBytes, rlePlanned, streamOf, maxFile, budget, streamUsed, storedRowsOf, plainSize}
-use Rattle.format.specs.Input.{Input}
-use Rattle.format.specs.Refusals.{maskSource, fileTooLarge, bufferTooShort, streamOverBudget, givenMasksRows, checkRows, planRows, writeRows}
-use Rattle.leaves.proofs.Runs.{is-one-run}
+use Rattle.format.specs.File.{rlePlanned, rawBytes, streamOf, maxFile, budget, streamUsed, storedRowsOf, plainSize}
+use Rattle.format.specs.Refusals.{fileTooLarge, bufferTooShort, streamOverBudget, givenMasksRows, checkRows, callRows, planRows, writeRows}
+use Rattle.leaves.specs.Formats.{bytesPerPixel, isIndexed, maskSource}
+use Rattle.format.proofs.Modes.{both}
 use Rattle.format.proofs.FileSizes.{length-rows, file-fits}
-use Rattle.format.proofs.Modes.{masks-given}
 use Rattle.format.proofs.Passing.{first-parts, row-parts, cat-parts, or-false, and-false}
+use Rattle.format.specs.Accepted.{MasksAccepted, Accepted}
+use Rattle.format.specs.Input.{Input}
+use Rattle.leaves.proofs.Runs.{is-one-run}
 
 -- ---- masks
 
@@ -124,13 +126,13 @@ plane w h stride n bytes e =
     (ltb-false bytes (stride * h) (twelve .0), ltb-false stride (w * n) (thirteen .0))
 
 -- 6 to 11 passed
-pub given-masks : (i : Input) → firstOf (givenMasksRows i) ≡ Passed → i .options .«has_bitfields» ≡ true
-    → MasksAccepted (i .options .bitfields .bpp) (i .options .bitfields .masks) × (maskSource (i .source .format) ≡ false)
+pub given-masks : (s : EncodeSource) (o : EncodeOptions) → firstOf (givenMasksRows s o) ≡ Passed → o .«has_bitfields» ≡ true
+    → MasksAccepted (o .bitfields .bpp) (o .bitfields .masks) × (maskSource (s .format) ≡ false)
 unfolding givenMasksRows
-given-masks i e q =
-    let rows = bitfieldsRows (i .options .bitfields .bpp) (i .options .bitfields .masks) in
-    let both = first-parts rows ((maskSource (i .source .format), MaskSource) ∷ []) (rw q at e) in
-    (masks-accepted (i .options .bitfields .bpp) (i .options .bitfields .masks) (both .0), row-parts (maskSource (i .source .format)) _ _ (both .1) .0)
+given-masks s o e q =
+    let rows = bitfieldsRows (o .bitfields .bpp) (o .bitfields .masks) in
+    let both = first-parts rows ((maskSource (s .format), MaskSource) ∷ []) (rw q at e) in
+    (masks-accepted (o .bitfields .bpp) (o .bitfields .masks) (both .0), row-parts (maskSource (s .format)) _ _ (both .1) .0)
 
 -- 14 and 16 passed: the file fits
 pub size-fits : (i : Input) → fileTooLarge maxFile i ≡ false → streamOverBudget maxFile i ≡ false → streamUsed maxFile i ≡ false → plainSize i ≤ maxFile
@@ -143,33 +145,31 @@ size-fits i large over used = go (rlePlanned i) (ltb (length (streamOf i)) (budg
     go true true true q a b c = absurd (false≢true (sym c))
     go true false true q a b c = absurd (false≢true (sym b))
 
--- what is known where none of 1 to 13 applies
-pub record Checked (i : Input) : Type 0 where
-  pub some-width : 0 < i .source .width
-  pub wide : i .source .width < 2147483648
-  pub some-height : 0 < i .source .height
-  pub tall : i .source .height < 2147483648
-  pub rows-inside : i .source .width * bytesPerPixel (i .source .format) ≤ i .source .stride
-  pub plane-long : i .source .stride * i .source .height ≤ length (i .plane)
-  pub masks : i .options .«has_bitfields» ≡ true → MasksAccepted (i .options .bitfields .bpp) (i .options .bitfields .masks)
-  pub samples : i .options .«has_bitfields» ≡ true → maskSource (i .source .format) ≡ false
+-- what is known where none of 1 to 13 applies, of a plane of so many bytes
+pub record ChecksPassed (s : EncodeSource) (o : EncodeOptions) (planeBytes : ℕ) : Type 0 where
+  pub some-width : 0 < s .width
+  pub wide : s .width < 2147483648
+  pub some-height : 0 < s .height
+  pub tall : s .height < 2147483648
+  pub rows-inside : s .width * bytesPerPixel (s .format) ≤ s .stride
+  pub plane-long : s .stride * s .height ≤ planeBytes
+  pub masks : o .«has_bitfields» ≡ true → MasksAccepted (o .bitfields .bpp) (o .bitfields .masks)
+  pub samples : o .«has_bitfields» ≡ true → maskSource (s .format) ≡ false
 
-pub checked : (i : Input) → firstOf (checkRows i) ≡ Passed → Checked i
+pub checks-passed : (s : EncodeSource) (o : EncodeOptions) (planeBytes paletteBytes : ℕ) → firstOf (checkRows s o planeBytes paletteBytes) ≡ Passed → ChecksPassed s o planeBytes
 unfolding checkRows
-checked i e =
-    let w = i .source .width in
-    let h = i .source .height in
-    let dims = dimensionRows w h in
-    let pals = paletteRows (isIndexed (i .source .format)) (i .source .«has_palette») (length (i .palette)) in
-    let modes = modeRows (i .options .«has_bitfields») (i .options .«has_calibrated_rgb») (profileMode (i .source .«has_linked_icc») (i .source .«has_icc») (i .options .«embed_icc»)) in
-    let planes = planeRows w h (i .source .stride) (bytesPerPixel (i .source .format)) (length (i .plane)) in
-    let a12 = first-parts (dims ++ pals ++ modes ++ givenMasksRows i) planes e in
-    let a6 = first-parts (dims ++ pals ++ modes) (givenMasksRows i) (a12 .0) in
-    let a5 = first-parts (dims ++ pals) modes (a6 .0) in
-    let a3 = first-parts dims pals (a5 .0) in
-    let size = dimensions w h (a3 .0) in
-    let long = plane w h (i .source .stride) (bytesPerPixel (i .source .format)) (length (i .plane)) (a12 .1) in
-    let mask = given-masks i (a6 .1) in
+checks-passed s o planeBytes paletteBytes e =
+    let dimension = dimensionRows (s .width) (s .height) in
+    let palette = paletteRows (isIndexed (s .format)) (s .«has_palette») paletteBytes in
+    let modes = modeRows (o .«has_bitfields») (o .«has_calibrated_rgb») (profileMode (s .«has_linked_icc») (s .«has_icc») (o .«embed_icc»)) in
+    let masks = givenMasksRows s o in
+    let a12 = first-parts (dimension ++ palette ++ modes ++ masks) (planeRows (s .width) (s .height) (s .stride) (bytesPerPixel (s .format)) planeBytes) e in
+    let a6 = first-parts (dimension ++ palette ++ modes) masks (a12 .0) in
+    let a5 = first-parts (dimension ++ palette) modes (a6 .0) in
+    let a3 = first-parts dimension palette (a5 .0) in
+    let size = dimensions (s .width) (s .height) (a3 .0) in
+    let long = plane (s .width) (s .height) (s .stride) (bytesPerPixel (s .format)) planeBytes (a12 .1) in
+    let mask = given-masks s o (a6 .1) in
     record {
       some-width = size .0 .0;
       wide = size .0 .1;
@@ -181,15 +181,22 @@ checked i e =
       samples = λ q. mask q .1;
     }
 
+-- of a call
+abbrev pub Checked : Input → Type 0
+Checked i = ChecksPassed (i .source) (i .options) (length (i .plane))
+
+pub checked : (i : Input) → firstOf (callRows i) ≡ Passed → Checked i
+checked i = checks-passed (i .source) (i .options) (length (i .plane)) (length (i .palette))
+
 -- the stored rows of a call that 1 to 13 pass have the raw bytes
 pub rows-long : (i : Input) → Checked i → length (storedRowsOf i) ≡ rawBytes i
-rows-long i k = length-rows i (λ q. k .masks (masks-given i q)) (λ q. k .samples (masks-given i q))
+rows-long i k = length-rows i (k .masks) (k .samples)
 
 -- 1 to 14 passed
 pub plan-passed : (i : Input) → firstOf (planRows maxFile i) ≡ Passed → Checked i × (fileTooLarge maxFile i ≡ false)
 unfolding planRows
 plan-passed i e =
-    let both = first-parts (checkRows i) ((fileTooLarge maxFile i, FileTooLarge) ∷ []) e in
+    let both = first-parts (callRows i) ((fileTooLarge maxFile i, FileTooLarge) ∷ []) e in
     (checked i (both .0), row-parts (fileTooLarge maxFile i) FileTooLarge (firstOf []) (both .1) .0)
 
 -- a call that no row of the table refuses

@@ -17,7 +17,7 @@ use Rattle.leaves.specs.Fit.{fit}
 use Rattle.leaves.specs.Masks.{run, count, lowest, isOneRun}
 use Rattle.rows.specs.StoredRows.{field}
 use Rattle.format.specs.Accepted.{MasksAccepted}
-use Rattle.format.specs.File.{channelOf}
+use Rattle.format.specs.Layout.{channelOf}
 use Rattle.format.specs.Readers.{channel}
 use Rattle.leaves.proofs.BitLaws.{and-half, and-odd, and-or}
 use Rattle.leaves.proofs.Fitting.{fit-lt}

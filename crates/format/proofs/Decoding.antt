@@ -2,14 +2,14 @@
 use mathlib.Core.Path.{_≡_, refl, sym, ap, _∙_}
 use mathlib.Core.Logic.{_⊎_}
 use mathlib.Core.Bool.{Bool, true, false, cond}
-use mathlib.Core.List.{List, [], _∷_, _++_, append-assoc, append-nil}
+use mathlib.Core.List.{List, [], _∷_, _++_, append-assoc}
 use Prim.Native.Nat.{ℕ, zero, suc, _+_, _-_, _*_, _%_, _^_, _≤_, _<_}
 use native.Mathlib.Nat.{mod-eq-of-lt, mul-le-mul-right}
 use native.Mathlib.Omega.{arith}
 use borrow.Author.Tests.{le-ltb, eqb-true, ne-eqb}
 use lib.Dec.{ltb, eqb}
-use lib.ListN.{length, getD, take, drop, length-append, length-drop, take-append-drop}
-use lib.Seq.{getD-take}
+use lib.ListN.{length, getD, take, drop, length-append, length-take, length-drop, take-append-drop}
+use lib.Seq.{getD-take, drop-append-seam}
 use Rattle.rows.specs.declared.rle.Block.{Block}
 use Rattle.rows.specs.declared.rle.Block.the-variants.{Pair, Absolute}
 use Rattle.leaves.specs.Lists.{tab, cat}
@@ -17,11 +17,13 @@ use Rattle.rows.specs.Packing.{packed}
 use Rattle.rows.specs.RleCodes.{cells, scan, same, lone, runLength, gatherLength, block, width, dataBytes, bytes, codes, rowCodes}
 use Rattle.rows.specs.StoredRows.{rowOf, sourceRow}
 use Rattle.rows.specs.Stream.{endMark, streamRow, stream}
-use Rattle.format.specs.Decode.{filled, cellAt, pairCell, dataRead, unlessFilled, next, decode}
-use Rattle.leaves.proofs.ListLaws.{length-tab, tab-ext}
+use Rattle.format.specs.Decode.{filled, cellAt, pairCell, dataRead, readCode, readRow, rowsBelow, decode}
+use Rattle.leaves.proofs.ListLaws.{length-tab, tab-ext, cat-ext}
 use Rattle.rows.proofs.RleBlocks.{scanned, choose-cases, block-sound}
 use Rattle.rows.proofs.RleBytes.{cell-small}
 use Rattle.rows.proofs.Scans.{length-cells}
+use Rattle.format.proofs.RowReading.{row-code}
+use Rattle.format.proofs.StreamReading.{rows-next, decode-next}
 use Rattle.format.proofs.Unpacking.{packed-at, cellAt-append, pairByte, Codable, codable, data-read, take-tab}
 
 -- ---- a run's cells
@@ -44,47 +46,22 @@ run-same : (x : ℕ) (xs : List ℕ) (i : ℕ) → i < runLength x xs → x ≡ 
 run-same x xs zero h = refl
 run-same x xs (suc i) h = sym (passed x 1 xs i (omega arith))
 
--- ---- one step of the decoder
-
--- with no cell left and no row above, nothing more is read
-pub decode-done : (d w : ℕ) (bs acc : List ℕ) → decode d w bs 0 0 acc ≡ filled acc
-unfolding decode
-decode-done d w bs acc = refl
-
--- the end of a full row goes on with the row above
-pub decode-row-end : (d w above : ℕ) (bs acc : List ℕ) → decode d w (0 ∷ 0 ∷ bs) 0 (suc above) acc ≡ decode d w bs w above acc
-unfolding decode next
-decode-row-end d w above bs acc = refl
+-- ---- one code
 
 -- a pair that the row has room for
-decode-pair : (d w n v room above : ℕ) (bs acc : List ℕ) → 1 ≤ n → n ≤ room
-    → decode d w (n ∷ v ∷ bs) room above acc ≡ decode d w bs (room - n) above (acc ++ tab (pairCell d v) n)
-unfolding decode next
-decode-pair d w zero v room above bs acc h k = absurd (omega arith)
-decode-pair d w (suc n) v zero above bs acc h k = absurd (omega arith)
-decode-pair d w (suc n) v (suc room) above bs acc h k = rw (le-ltb (suc room) (suc n) k)
-
-skip-one : (d w b k room above : ℕ) (bs acc : List ℕ) → next d w (b ∷ bs) (suc k) room above acc ≡ next d w bs k room above acc
-unfolding next
-skip-one d w b k room above [] acc = refl
-skip-one d w b k room above (v ∷ bs) acc = refl
-
--- the bytes of a block that was read are passed over
-next-skip : (d w room above : ℕ) (xs bs acc : List ℕ) → next d w (xs ++ bs) (length xs) room above acc ≡ next d w bs 0 room above acc
-next-skip d w room above [] bs acc = refl
-next-skip d w room above (x ∷ xs) bs acc = skip-one d w x (length xs) room above (xs ++ bs) acc ∙ next-skip d w room above xs bs acc
+code-pair : (d n v room : ℕ) (bs : List ℕ) → 1 ≤ n → n ≤ room → readCode d room (n ∷ v ∷ bs) ≡ filled (tab (pairCell d v) n) 2
+unfolding readCode
+code-pair d zero v room bs h k = absurd (omega arith)
+code-pair d (suc n) v room bs h k = rw (le-ltb room (suc n) k)
 
 -- an absolute block that the row has room for, with its data bytes
-decode-absolute : (d w n room above : ℕ) (xs bs acc : List ℕ) → 2 < n → n ≤ room → length xs ≡ dataRead d n → n * d ≤ length (xs ++ bs) * 8
-    → decode d w (0 ∷ n ∷ xs ++ bs) room above acc ≡ decode d w bs (room - n) above (acc ++ tab (cellAt d (xs ++ bs)) n)
-unfolding decode next
-decode-absolute d w zero room above xs bs acc h k e f = absurd (omega arith)
-decode-absolute d w (suc zero) room above xs bs acc h k e f = absurd (omega arith)
-decode-absolute d w (suc (suc zero)) room above xs bs acc h k e f = absurd (omega arith)
-decode-absolute d w (suc (suc (suc n))) zero above xs bs acc h k e f = absurd (omega arith)
-decode-absolute d w (suc (suc (suc n))) (suc r) above xs bs acc h k e f =
-    rw (le-ltb (suc r) (suc (suc (suc n))) k, le-ltb (length (xs ++ bs) * 8) (suc (suc (suc n)) * d) f, ← e)
-    (ap (unlessFilled (suc r - suc (suc (suc n))) above (acc ++ tab (cellAt d (xs ++ bs)) (suc (suc (suc n))))) (next-skip d w _ above xs bs _))
+code-absolute : (d n room : ℕ) (bs : List ℕ) → 2 < n → n ≤ room → n * d ≤ length bs * 8
+    → readCode d room (0 ∷ n ∷ bs) ≡ filled (tab (cellAt d bs) n) (suc (suc (dataRead d n)))
+unfolding readCode
+code-absolute d zero room bs h k f = absurd (omega arith)
+code-absolute d (suc zero) room bs h k f = absurd (omega arith)
+code-absolute d (suc (suc zero)) room bs h k f = absurd (omega arith)
+code-absolute d (suc (suc (suc n))) room bs h k f = rw (le-ltb room (suc (suc (suc n))) k, le-ltb (length bs * 8) (suc (suc (suc n)) * d) f)
 
 -- ---- one block
 
@@ -103,24 +80,22 @@ data-cells {d} q l bs n small h =
     ∙ ap (λ (z : ℕ). z % 2 ^ d) (getD-take n l i 0 b) ∙ mod-eq-of-lt (small i))
     ∙ sym (take-tab l n h)
 
-module _ {d : ℕ} (q : Codable d) (w above : ℕ) (rest acc : List ℕ) where
-  -- the decoder takes the block b of the cells xs for the first of them
+module _ {d : ℕ} (q : Codable d) (rest : List ℕ) where
+  -- the block b of the cells xs is read as the first of them
   Taken : List ℕ → Block → Type 0
-  Taken xs b = decode d w (bytes d b xs ++ rest) (length xs) above acc ≡ decode d w rest (length xs - width b) above (acc ++ take (width b) xs)
+  Taken xs b = readCode d (length xs) (bytes d b xs ++ rest) ≡ filled (take (width b) xs) (length (bytes d b xs))
 
   pair-taken : (xs : List ℕ) (n u v : ℕ) → 1 ≤ n → n ≤ length xs → ((j : ℕ) → j < n → pairCell d (pairByte d u v) j ≡ getD xs j 0) → Taken xs (Pair n u v)
   unfolding Taken bytes
   pair-taken xs n u v h k e =
-      decode-pair d w n (pairByte d u v) (length xs) above rest acc h k
-      ∙ ap (λ (l : List ℕ). decode d w rest (length xs - n) above (acc ++ l)) (tab-ext _ _ n e ∙ sym (take-tab xs n k))
+      code-pair d n (pairByte d u v) (length xs) rest h k ∙ ap (λ (l : List ℕ). filled l 2) (tab-ext _ _ n e ∙ sym (take-tab xs n k))
 
   absolute-taken : (xs : List ℕ) (n : ℕ) → ((i : ℕ) → getD xs i 0 < 2 ^ d) → 2 < n → n ≤ length xs → Taken xs (Absolute n)
   unfolding Taken bytes
   absolute-taken xs n small h k =
-      let indices = packed d (take n xs) (dataBytes d n) in
-      let e : length indices ≡ dataBytes d n = data-length d n (take n xs) in
-      decode-absolute d w n (length xs) above indices rest acc h k (e ∙ sym (data-read d n)) (simp (length-append, e) (omega arith))
-      ∙ ap (λ (l : List ℕ). decode d w rest (length xs - n) above (acc ++ l)) (data-cells q xs rest n small k)
+      let e : length (packed d (take n xs) (dataBytes d n)) ≡ dataBytes d n = data-length d n (take n xs) in
+      code-absolute d n (length xs) (packed d (take n xs) (dataBytes d n) ++ rest) h k (simp (length-append, e) (omega arith))
+      ∙ rw (data-cells q xs rest n small k, e, data-read d n)
 
   block-taken : (x : ℕ) (xs : List ℕ) → ((i : ℕ) → getD (x ∷ xs) i 0 < 2 ^ d) → Taken (x ∷ xs) (block x xs)
   block-taken x xs small =
@@ -138,70 +113,85 @@ module _ {d : ℕ} (q : Codable d) (w above : ℕ) (rest acc : List ℕ) where
 -- ---- a row
 
 -- a block's cells and those after it
-rejoin : (n x : ℕ) (xs acc : List ℕ) → 1 ≤ n → (acc ++ take n (x ∷ xs)) ++ drop (n - 1) xs ≡ acc ++ (x ∷ xs)
-rejoin zero x xs acc h = absurd (omega arith)
-rejoin (suc k) x xs acc h =
+rejoin : (n x : ℕ) (xs : List ℕ) → 1 ≤ n → take n (x ∷ xs) ++ drop (n - 1) xs ≡ x ∷ xs
+rejoin zero x xs h = absurd (omega arith)
+rejoin (suc k) x xs h =
     let e : suc k - 1 ≡ k = omega arith in
-    rw e (append-assoc acc (x ∷ take k xs) (drop k xs) ∙ ap (λ (l : List ℕ). acc ++ (x ∷ l)) (take-append-drop k xs))
+    rw e (ap (λ (l : List ℕ). x ∷ l) (take-append-drop k xs))
 
-codes-back : {d : ℕ} → Codable d → (w above s : ℕ) (xs rest acc : List ℕ) → ((i : ℕ) → getD xs i 0 < 2 ^ d)
-    → decode d w (codes d s xs ++ rest) (length (drop s xs)) above acc ≡ decode d w rest 0 above (acc ++ drop s xs)
+codes-back : {d : ℕ} → Codable d → (s : ℕ) (xs rest : List ℕ) → ((i : ℕ) → getD xs i 0 < 2 ^ d)
+    → readRow d (length (drop s xs)) (codes d s xs ++ rest) ≡ filled (drop s xs) (length (codes d s xs))
 unfolding codes Taken
-codes-back q w above zero [] rest acc small = rw append-nil
-codes-back q w above (suc s) [] rest acc small = rw append-nil
-codes-back q w above (suc s) (x ∷ xs) rest acc small = codes-back q w above s xs rest acc (λ i. small (suc i))
-codes-back {d} q w above zero (x ∷ xs) rest acc small =
+codes-back q zero [] rest small = refl
+codes-back q (suc s) [] rest small = refl
+codes-back q (suc s) (x ∷ xs) rest small = codes-back q s xs rest (λ i. small (suc i))
+codes-back {d} q zero (x ∷ xs) rest small =
     let b = block x xs in
     let s = block-sound d (q .packs .small) x xs in
-    let e : suc (length xs) - width b ≡ length (drop (width b - 1) xs) = omega (arith, length-drop (width b - 1) xs) in
+    let e : suc (length xs) - length (take (width b) (x ∷ xs)) ≡ length (drop (width b - 1) xs)
+    = omega (arith, length-drop (width b - 1) xs, length-take (width b) (x ∷ xs)) in
     rw (append-assoc (bytes d b (x ∷ xs)) (codes d (width b - 1) xs) rest)
-    (block-taken q w above (codes d (width b - 1) xs ++ rest) acc x xs small
-    ∙ rw e (codes-back q w above (width b - 1) xs rest (acc ++ take (width b) (x ∷ xs)) (λ i. small (suc i)))
-    ∙ ap (decode d w rest 0 above) (rejoin (width b) x xs acc (s .some)))
+    (row-code d (length xs) (length (drop (width b - 1) xs)) (bytes d b (x ∷ xs)) (codes d (width b - 1) xs ++ rest) (block-taken q (codes d (width b - 1) xs ++ rest) x xs small) e
+    (codes-back q (width b - 1) xs rest (λ i. small (suc i)))
+    ∙ rw (rejoin (width b) x xs (s .some), length-append (bytes d b (x ∷ xs)) (codes d (width b - 1) xs)))
 
-module _ (d : ℕ) (deep : (d ≡ 4) ⊎ (d ≡ 8)) (w : ℕ) where
-  -- a row's codes fill the row with its cells, and the decoder goes on after them
-  pub decode-row : (row : List ℕ) (above : ℕ) (rest acc : List ℕ)
-      → decode d w (rowCodes d row ++ rest) (length row) above acc ≡ decode d w rest 0 above (acc ++ cells d row)
+-- a row's codes with the end that leads to the row above
+abbrev pub rowAndEnd : ℕ → List ℕ → List ℕ
+rowAndEnd d row = rowCodes d row ++ (0 ∷ 0 ∷ [])
+
+module _ (d : ℕ) (deep : (d ≡ 4) ⊎ (d ≡ 8)) where
+  -- a row's codes are read as its cells, and whatever follows them is not read
+  pub decode-row : (row rest : List ℕ) → readRow d (length row) (rowCodes d row ++ rest) ≡ filled (cells d row) (length (rowCodes d row))
   unfolding rowCodes
-  decode-row row above rest acc =
-      rw (← length-cells d row) (codes-back (codable deep) w above 0 (cells d row) rest acc (cell-small d row))
+  decode-row row rest = rw (← length-cells d row) (codes-back (codable deep) 0 (cells d row) rest (cell-small d row))
+
+  -- ---- rows of w cells
+
+  module _ (w : ℕ) (row : ℕ → List ℕ) where
+    row-there : (s : ℕ) (front rest : List ℕ) → length (row s) ≡ w
+        → readRow d w (drop (length front) (front ++ (rowCodes d (row s) ++ rest))) ≡ filled (cells d (row s)) (length (rowCodes d (row s)))
+    row-there s front rest wide = rw (drop-append-seam front (rowCodes d (row s) ++ rest), ← wide) (decode-row (row s) rest)
+
+    -- n rows with their ends are read as their cells, and row n begins behind them
+    pub decode-below : (n : ℕ) (rest : List ℕ) → ((s : ℕ) → s < n → length (row s) ≡ w)
+        → rowsBelow d w (cat (λ s. rowAndEnd d (row s)) n ++ rest) n ≡ filled (cat (λ s. cells d (row s)) n) (length (cat (λ s. rowAndEnd d (row s)) n))
+    unfolding cat rowsBelow
+    decode-below zero rest wide = refl
+    decode-below (suc n) rest wide =
+        let front = cat (λ s. rowAndEnd d (row s)) n in
+        let codes = rowCodes d (row n) in
+        let next : List ℕ = 0 ∷ 0 ∷ rest in
+        rw (append-assoc front (codes ++ (0 ∷ 0 ∷ [])) rest, append-assoc codes (0 ∷ 0 ∷ []) rest, length-append front (codes ++ (0 ∷ 0 ∷ [])), length-append codes (0 ∷ 0 ∷ []))
+        (rows-next d w (front ++ (codes ++ next)) n rest (decode-below n (codes ++ next) (λ s h. wide s (omega arith))) (row-there n front next (wide n (omega arith)))
+        (rw (drop-append-seam front (codes ++ next)) (drop-append-seam codes next)))
+
+    -- and with the codes of the top row the stream is read, whatever follows them
+    pub decode-top : (m : ℕ) (rest : List ℕ) → ((s : ℕ) → s < suc m → length (row s) ≡ w)
+        → decode d w (cat (λ s. rowAndEnd d (row s)) m ++ (rowCodes d (row m) ++ rest)) m
+        ≡ filled (cat (λ s. cells d (row s)) (suc m)) (length (cat (λ s. rowAndEnd d (row s)) m) + length (rowCodes d (row m)))
+    unfolding cat
+    decode-top m rest wide =
+        let front = cat (λ s. rowAndEnd d (row s)) m in
+        decode-next d w (front ++ (rowCodes d (row m) ++ rest)) m (decode-below m (rowCodes d (row m) ++ rest) (λ s h. wide s (omega arith))) (row-there m front rest (wide m (omega arith)))
 
   -- ---- a stream
 
-  module _ (plane : List ℕ) (stride m : ℕ) (wide : (s : ℕ) → s < suc m → length (sourceRow plane stride w (rowOf false (suc m) s)) ≡ w) where
-    one-row : (s above : ℕ) (rest acc : List ℕ) → s < suc m
-        → decode d w (streamRow d w (suc m) plane stride s ++ rest) w above acc
-        ≡ decode d w (0 ∷ endMark (suc m) s ∷ rest) 0 above (acc ++ cells d (sourceRow plane stride w (rowOf false (suc m) s)))
+  module _ (w : ℕ) (plane : List ℕ) (stride m : ℕ) (wide : (s : ℕ) → s < suc m → length (sourceRow plane stride w (rowOf false (suc m) s)) ≡ w) where
+    -- the stored row s
+    abbrev stored : ℕ → List ℕ
+    stored s = sourceRow plane stride w (rowOf false (suc m) s)
+
+    rows-end : cat (streamRow d w (suc m) plane stride) m ≡ cat (λ s. rowAndEnd d (stored s)) m
     unfolding streamRow
-    one-row s above rest acc h =
-        let row = sourceRow plane stride w (rowOf false (suc m) s) in
-        let e = decode-row row above (0 ∷ endMark (suc m) s ∷ rest) acc in
-        rw (append-assoc (rowCodes d row) (0 ∷ endMark (suc m) s ∷ []) rest) (rw (wide s h) at e)
+    rows-end = cat-ext _ _ m (λ s h. rw (ne-eqb (s + 1) (suc m) (λ z. omega arith)))
 
-    first-rows : (n : ℕ) (rest : List ℕ) → n ≤ m
-        → decode d w (cat (streamRow d w (suc m) plane stride) n ++ rest) w m []
-        ≡ decode d w rest w (m - n) (cat (λ s. cells d (sourceRow plane stride w (rowOf false (suc m) s))) n)
-    unfolding cat
-    first-rows zero rest h = let e : m - 0 ≡ m = omega arith in rw e
-    first-rows (suc n) rest h =
-        let acc = cat (λ s. cells d (sourceRow plane stride w (rowOf false (suc m) s))) n in
-        let e : m - n ≡ suc (m - suc n) = omega arith in
-        let k : endMark (suc m) n ≡ 0 = rw (ne-eqb (n + 1) (suc m) (λ z. omega arith)) in
-        rw (append-assoc (cat (streamRow d w (suc m) plane stride) n) (streamRow d w (suc m) plane stride n) rest)
-        (first-rows n (streamRow d w (suc m) plane stride n ++ rest) (omega arith)
-        ∙ one-row n (m - n) rest acc (omega arith)
-        ∙ rw (k, e) (decode-row-end d w (m - suc n) rest (acc ++ cells d (sourceRow plane stride w (rowOf false (suc m) n)))))
-
-    -- the stream is read as the cells of its rows, in stored order, and whatever follows it is not read
+    -- the stream is read as the cells of its rows, in stored order; its last two bytes are not read, nor what follows it
     pub decode-stream : (rest : List ℕ)
-        → decode d w (stream d w (suc m) plane stride ++ rest) w m []
-        ≡ filled (cat (λ s. cells d (sourceRow plane stride w (rowOf false (suc m) s))) (suc m))
-    unfolding stream cat
+        → decode d w (stream d w (suc m) plane stride ++ rest) m ≡ filled (cat (λ s. cells d (stored s)) (suc m)) (length (stream d w (suc m) plane stride) - 2)
+    unfolding stream streamRow cat
     decode-stream rest =
-        let acc = cat (λ s. cells d (sourceRow plane stride w (rowOf false (suc m) s))) m in
-        let e : m - m ≡ 0 = omega arith in
-        rw (append-assoc (cat (streamRow d w (suc m) plane stride) m) (streamRow d w (suc m) plane stride m) rest)
-        (first-rows m (streamRow d w (suc m) plane stride m ++ rest) (omega arith)
-        ∙ one-row m (m - m) rest acc (omega arith)
-        ∙ rw e (decode-done d w (0 ∷ endMark (suc m) m ∷ rest) (acc ++ cells d (sourceRow plane stride w (rowOf false (suc m) m)))))
+        let codes = rowCodes d (stored m) in
+        let end : List ℕ = 0 ∷ endMark (suc m) m ∷ [] in
+        let front = cat (λ s. rowAndEnd d (stored s)) m in
+        let size : length (front ++ (codes ++ end)) - 2 ≡ length front + length codes = omega (arith, length-append front (codes ++ end), length-append codes end) in
+        rw (rows-end, append-assoc front (codes ++ end) rest, append-assoc codes end rest, size) (decode-top w stored m (0 ∷ endMark (suc m) m ∷ rest) wide)

@@ -16,7 +16,8 @@ use Rattle.rows.specs.RleCodes.{cells, scan, bytes, codes, rowCodes}
 use Rattle.rows.specs.Stream.{streamRow, stream}
 use Rattle.format.specs.Headers.{fileHeader, infoHeader}
 use Rattle.format.specs.Input.{Input}
-use Rattle.format.specs.File.{modeOf, tailOf, entriesOf, tableEntry, colourTable, headRest, headBytes, rawBytes, rlePlanned, streamOf, maxFile, budget, streamUsed, pixels, compressionOf, imageSize, headOf, fileSize, fileOf, plainSize, boundOf, formatOf}
+use Rattle.format.specs.File.{rawBytes, streamOf, maxFile, budget, streamUsed, pixels, tableEntry, colourTable, compressionOf, imageSize, headOf, fileSize, fileOf, plainSize, boundOf, formatOf}
+use Rattle.format.specs.Layout.{modeOf, tailIn, depthOf, tableEntries, headRest, headLen, rawLen, rowsCompression, rowsFormat, wantsRle}
 use Rattle.format.specs.Refusals.{givenMasksRows, checkRows, planRows}
 use Rattle.format.proofs.ExampleInputs.{sevens}
 
@@ -87,17 +88,17 @@ marked =
 
 -- M1 to M12
 pub marked-hold : map found marked ≡ map printed marked
-unfolding found printed marked m12File rowCodes codes cells scan bytes packedByte digits packed fit rowStride bitfieldsRows maskRows isOneRun count lowest onesIn trailingZeros sharesBit fileOf headOf fileSize pixels streamUsed streamOf stream streamRow budget rawBytes headBytes headRest entriesOf writtenPaletteEntries paletteEntryCount clrUsed colourTable tableEntry rlePlanned modeOf tailOf compressionOf imageSize fileHeader infoHeader le16 le32 cat tab boundOf plainSize
+unfolding found printed marked m12File rowCodes codes cells scan bytes packedByte digits packed fit rowStride bitfieldsRows maskRows isOneRun count lowest onesIn trailingZeros sharesBit fileOf headOf fileSize pixels streamUsed streamOf stream streamRow budget rawLen depthOf headLen headRest tableEntries writtenPaletteEntries paletteEntryCount clrUsed colourTable tableEntry wantsRle modeOf tailIn compressionOf rowsCompression imageSize fileHeader infoHeader le16 le32 cat tab boundOf plainSize
 marked-hold = refl
 
 -- M12's file is a stream
-pub five-wide : formatOf maxFile (modeOf (sevens 5 5 5)) (sevens 5 5 5) ≡ Rle8
-unfolding streamUsed streamOf stream streamRow rowCodes codes cells scan bytes budget rawBytes headBytes headRest entriesOf writtenPaletteEntries paletteEntryCount rowStride rlePlanned modeOf cat formatOf
+pub five-wide : formatOf maxFile (sevens 5 5 5) ≡ Rle8
+unfolding streamUsed streamOf stream streamRow rowCodes codes cells scan bytes budget rawLen depthOf headLen headRest tableEntries writtenPaletteEntries paletteEntryCount rowStride wantsRle modeOf cat formatOf rowsFormat
 five-wide = refl
 
 -- "The same at 4 × 1: stream 4, raw 4, so plain Indexed8; bound 72": a tie keeps the rows
-pub four-wide : (length (streamOf (sevens 4 4 4)) ≡ 4) × (rawBytes (sevens 4 4 4) ≡ 4) × (boundOf maxFile (sevens 4 4 4) ≡ 72) × (formatOf maxFile (modeOf (sevens 4 4 4)) (sevens 4 4 4) ≡ Indexed8)
-unfolding streamUsed streamOf stream streamRow rowCodes codes cells scan bytes budget rawBytes headBytes headRest entriesOf writtenPaletteEntries paletteEntryCount rowStride rlePlanned modeOf tailOf cat boundOf plainSize formatOf
+pub four-wide : (length (streamOf (sevens 4 4 4)) ≡ 4) × (rawBytes (sevens 4 4 4) ≡ 4) × (boundOf maxFile (sevens 4 4 4) ≡ 72) × (formatOf maxFile (sevens 4 4 4) ≡ Indexed8)
+unfolding streamUsed streamOf stream streamRow rowCodes codes cells scan bytes budget rawLen depthOf headLen headRest tableEntries writtenPaletteEntries paletteEntryCount rowStride wantsRle modeOf tailIn cat boundOf plainSize formatOf rowsFormat
 four-wide = (refl, refl, refl, refl)
 
 -- "Plane one byte short in its last row's padding: 12": 7 bytes hold all four cells of a row of stride 8

@@ -21,7 +21,8 @@ use Rattle.rows.specs.Packing.{digits, packedByte, packed}
 use Rattle.rows.specs.StoredRows.{padded, cell32, field, maskWord, maskCell, storedRow, storedRows}
 use Rattle.format.specs.Headers.{dwords, fileHeader, infoHeader, v4Fields, v5Fields, longs}
 use Rattle.format.specs.Input.{Input}
-use Rattle.format.specs.File.{modeOf, tailOf, layoutOf, packIn, entriesOf, tableEntry, colourTable, maskTail, headRest, headBytes, rawBytes, rlePlanned, maxFile, streamUsed, storedRowsOf, pixels, compressionOf, imageSize, headOf, fileSize, fileOf, plainSize, boundOf, formatOf}
+use Rattle.format.specs.File.{maxFile, streamUsed, storedRowsOf, pixels, tableEntry, colourTable, compressionOf, imageSize, headOf, fileSize, fileOf, plainSize, boundOf, formatOf}
+use Rattle.format.specs.Layout.{modeOf, tailIn, depthOf, channelsOf, packOf, tableEntries, maskTail, headRest, headLen, rawLen, rowsCompression, rowsFormat, wantsRle}
 use Rattle.format.proofs.ExampleInputs.{oneRow, withMinimal, withIntent, withMasks, withCalibrated, call}
 
 -- a call, and what the original made of it
@@ -77,9 +78,9 @@ files =
 
 -- what the definitions make of a call
 unfoldable pub found : Input → Written
-found input = wrote input (formatOf maxFile (modeOf input) input) (boundOf maxFile input) (fileOf maxFile input)
+found input = wrote input (formatOf maxFile input) (boundOf maxFile input) (fileOf maxFile input)
 
 -- format, bound and file are the original's
 pub files-hold : map (λ (e : Written). found (e .input)) files ≡ files
-unfolding found fileOf headOf fileSize pixels storedRowsOf packIn layoutOf count lowest onesIn trailingZeros storedRows storedRow padded cell32 maskCell maskWord field fit packed packedByte digits streamUsed rawBytes headBytes headRest maskTail v4Fields v5Fields longs dwords entriesOf writtenPaletteEntries paletteEntryCount clrUsed colourTable tableEntry rowStride rlePlanned modeOf tailOf compressionOf imageSize fileHeader infoHeader le16 le32 cat tab boundOf plainSize formatOf
+unfolding found fileOf headOf fileSize pixels storedRowsOf packOf channelsOf count lowest onesIn trailingZeros storedRows storedRow padded cell32 maskCell maskWord field fit packed packedByte digits streamUsed rawLen depthOf headLen headRest maskTail v4Fields v5Fields longs dwords tableEntries writtenPaletteEntries paletteEntryCount clrUsed colourTable tableEntry rowStride wantsRle modeOf tailIn compressionOf rowsCompression imageSize fileHeader infoHeader le16 le32 cat tab boundOf plainSize formatOf rowsFormat
 files-hold = refl

@@ -8,6 +8,8 @@ use native.Mathlib.Omega.{arith}
 use borrow.Author.Tests.{lt-ltb, leb-false}
 use lib.Dec.{eqb, leb}
 use lib.ListN.{length, getD, replicate}
+use Rattle.leaves.specs.declared.encoder.EncodeSource.{EncodeSource}
+use Rattle.leaves.specs.declared.options.EncodeOptions.{EncodeOptions}
 use Rattle.leaves.specs.declared.image.BmpPixelFormat.{BmpPixelFormat}
 use Rattle.rows.specs.declared.pack.MaskLayout.{MaskLayout}
 use Rattle.rows.specs.declared.pack.RowPack.{RowPack}
@@ -15,22 +17,25 @@ use Rattle.rows.specs.declared.pack.RowPack.the-variants.{Bgra32, Bgr24, Words1
 use Rattle.rows.specs.declared.rle.Block.{Block}
 use Rattle.rows.specs.declared.rle.Block.the-variants.{Pair, Absolute}
 use Rattle.leaves.specs.Bytes.{le16, le32}
-use Rattle.leaves.specs.Formats.{bitsPerPixel}
+use Rattle.format.specs.File.{modeIn, packIn, rlePlanned, rawBytes, entriesOf, headBytes, tailOf, streamOf, maxFile, budget, streamUsed, storedRowsOf, pixels, tableEntry, colourTable, fileSize, fileOf, plainSize, boundOf}
+use Rattle.format.specs.Layout.{isProfiled, tailIn, maskTail, headRest, coded}
+use Rattle.leaves.specs.Formats.{bitsPerPixel, isRgb565}
+use Rattle.format.specs.declared.layout.Mode.{Mode}
+use Rattle.format.specs.declared.layout.Mode.the-variants.{Masked, Calibrated, Profiled, Plain}
+use Rattle.format.proofs.Modes.{coded-cases, planned-in, no-tail, used-in}
+use Rattle.format.proofs.FileSizes.{pack-ok, length-rows}
+use Rattle.format.proofs.HeadFields.{dword-bytes, firstPart, restPart, file-parts, length-file}
 use Rattle.leaves.specs.Lists.{tab, cat}
 use Rattle.rows.specs.Packing.{packedByte, packed}
 use Rattle.rows.specs.RleCodes.{width, block, bytes, codes, rowCodes}
 use Rattle.rows.specs.StoredRows.{padded, cell24, cell32, maskCell, storedRow, storedRows, PackOk, packBytes, rowOf, sourceRow}
 use Rattle.rows.specs.Stream.{endMark, streamRow, stream}
 use Rattle.format.specs.Accepted.{Accepted}
-use Rattle.format.specs.File.{Mode, masked, calibrated, profiled, plain, modeOf, tailOf, packIn, entriesOf, tableEntry, colourTable, isRgb565, maskTail, headRest, headBytes, rawBytes, coded, rlePlanned, streamOf, maxFile, budget, streamUsed, storedRowsOf, pixels, fileSize, fileOf, plainSize, boundOf}
 use Rattle.format.specs.Headers.{dwords, fileHeader, infoHeader, v4Fields, v5Fields}
 use Rattle.format.specs.Input.{Input}
 use Rattle.format.specs.Readers.{wordAt, dwordAt}
 use Rattle.rows.proofs.PackLaws.{Depth, depth, digits-byte}
 use Rattle.rows.proofs.RleBlocks.{block-sound}
-use Rattle.format.proofs.FileSizes.{length-rows, pack-ok}
-use Rattle.format.proofs.HeadFields.{dword-bytes, firstPart, restPart, file-parts, length-file}
-use Rattle.format.proofs.Modes.{masks-given, planned-in, no-tail, coded-cases, used-in}
 use Rattle.format.proofs.SourceRows.{source-small}
 
 -- ---- the size
@@ -71,11 +76,11 @@ unfolding fileSize pixels plainSize boundOf
 file-within-bound i a = go (rlePlanned i) (streamUsed maxFile i) (leb (plainSize i) maxFile) refl refl refl (a .fits)
   where
     rows : length (storedRowsOf i) ≡ rawBytes i
-    rows = length-rows i (λ q. a .masks (masks-given i q)) (λ q. a .samples (masks-given i q))
+    rows = length-rows i (a .masks) (a .samples)
 
     go : (p s f : Bool) → rlePlanned i ≡ p → streamUsed maxFile i ≡ s → leb (plainSize i) maxFile ≡ f
-        → headBytes i + length (cond s (streamOf i) (storedRowsOf i)) + length (tailOf (modeOf i) i) ≤ maxFile
-        → headBytes i + length (cond s (streamOf i) (storedRowsOf i)) + length (tailOf (modeOf i) i)
+        → headBytes i + length (cond s (streamOf i) (storedRowsOf i)) + length (tailOf i) ≤ maxFile
+        → headBytes i + length (cond s (streamOf i) (storedRowsOf i)) + length (tailOf i)
         ≤ cond p (headBytes i + max (budget maxFile i + 2 * i .source .width + 2) (cond f (rawBytes i) 0)) (plainSize i)
     go false true f e u l fits = absurd (false≢true (sym (unplanned i e) ∙ u))
     go false false f e u l fits = omega (arith, rows)
@@ -164,12 +169,12 @@ v5-bytes : (intent at size : ℕ) → Bytes (v5Fields intent at size)
 unfolding v5Fields
 v5-bytes intent at size = joined (joined (joined (dword intent) (dword at)) (dword size)) (dword 0)
 
-rest-bytes : (mode : Mode) (i : Input) (at : ℕ) → Bytes (headRest mode i at)
+rest-bytes : (mode : Mode) (s : EncodeSource) (o : EncodeOptions) (n at : ℕ) → Bytes (headRest mode s o n at)
 unfolding headRest maskTail
-rest-bytes masked i at = dwords-bytes _
-rest-bytes calibrated i at = v4-bytes _ _ _ _
-rest-bytes profiled i at = joined (v4-bytes _ _ _ _) (v5-bytes _ _ _)
-rest-bytes plain i at = either (isRgb565 (i .source .format)) _ _ (v4-bytes _ _ _ _) none
+rest-bytes Masked s o n at = dwords-bytes _
+rest-bytes Calibrated s o n at = v4-bytes _ _ _ _
+rest-bytes Profiled s o n at = joined (v4-bytes _ _ _ _) (v5-bytes _ _ _)
+rest-bytes Plain s o n at = either (isRgb565 (s .format)) _ _ (v4-bytes _ _ _ _) none
 
 -- the table has the palette's bytes and zeros
 table-bytes : (i : Input) → Accepted i → Bytes (colourTable i)
@@ -217,10 +222,10 @@ row-bytes (Masks n bgr layout) ok w row h = padded-bytes _ _ (cat-bytes _ w (λ 
 rows-bytes : (i : Input) → Accepted i → Bytes (storedRowsOf i)
 unfolding storedRowsOf storedRows
 rows-bytes i a =
-    let ok = pack-ok (modeOf i) i (λ q. a .masks (masks-given i q)) (λ q. a .samples (masks-given i q)) .0 in
+    let ok = pack-ok i (a .masks) (a .samples) .0 in
     let w = i .source .width in
     let h = i .source .height in
-    let p = packIn (modeOf i) i in
+    let p = packIn i in
     let row : ℕ → List ℕ = λ s. sourceRow (i .plane) (i .source .stride) (w * packBytes p) (rowOf (i .options .«top_down») h s) in
     let small : (s : ℕ) → Bytes (row s) =
     λ s. record { each = source-small (i .plane) (i .source .stride) (w * packBytes p) (rowOf (i .options .«top_down») h s) (a .plane-bytes) } in
@@ -264,17 +269,14 @@ pixel-bytes i a = go (streamUsed maxFile i) refl
     go true e = stream-bytes (coded-depth (i .source .format) (used-in maxFile i e .planned .source)) _ _ _ _
     go false e = rows-bytes i a
 
-tail-bytes : (mode : Mode) (i : Input) → Bytes (i .icc) → Bytes (i .linked) → Bytes (tailOf mode i)
-unfolding tailOf
-tail-bytes masked i a b = none
-tail-bytes calibrated i a b = none
-tail-bytes profiled i a b = either (i .source .«has_linked_icc») (i .linked) (i .icc) b a
-tail-bytes plain i a b = none
+tail-bytes : (mode : Mode) (given : Bool) (icc linked : List ℕ) → Bytes icc → Bytes linked → Bytes (tailIn mode given icc linked)
+unfolding tailIn
+tail-bytes mode given icc linked a b = either (isProfiled mode) _ _ (either given linked icc b a) none
 
 -- every number of the file is a byte, if the profiles' are
 pub file-bytes : (i : Input) → Accepted i → ((k : ℕ) → getD (i .icc) k 0 < 256) → ((k : ℕ) → getD (i .linked) k 0 < 256) → (k : ℕ) → getD (fileOf maxFile i) k 0 < 256
 file-bytes i a icc linked =
-    let all : Bytes (firstPart i (fileSize maxFile i) ++ (restPart i ++ (colourTable i ++ (pixels maxFile i ++ tailOf (modeOf i) i)))) =
+    let all : Bytes (firstPart i (fileSize maxFile i) ++ (restPart i ++ (colourTable i ++ (pixels maxFile i ++ tailOf i)))) =
     joined (joined (file-header _ _) (info-header _ _ _ _ _ _ _ _ _))
-    (joined (rest-bytes (modeOf i) i _) (joined (table-bytes i a) (joined (pixel-bytes i a) (tail-bytes (modeOf i) i (record { each = icc }) (record { each = linked }))))) in
+    (joined (rest-bytes (modeIn i) (i .source) (i .options) _ _) (joined (table-bytes i a) (joined (pixel-bytes i a) (tail-bytes (modeIn i) _ _ _ (record { each = icc }) (record { each = linked }))))) in
     subst Bytes (sym (file-parts i)) all .each

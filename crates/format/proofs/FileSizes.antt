@@ -13,17 +13,17 @@ use lib.ListN.{length, getD}
 use lib.Pow.{pow-mono}
 use Rattle.leaves.specs.declared.image.BmpPixelFormat.{BmpPixelFormat}
 use Rattle.leaves.specs.declared.image.BmpPixelFormat.the-variants.{Rgba, Rgb24, Bgra, Bgr24, Rgb555, Rgb565, Pal8, Indexed4, Indexed2, Indexed1}
-use Rattle.leaves.specs.Formats.{bytesPerPixel, bitsPerPixel}
+use Rattle.format.specs.File.{depthIn, packIn, rawBytes, headBytes, tailOf, streamOf, budget, streamUsed, storedRowsOf, pixels, fileSize, plainSize}
+use Rattle.format.specs.Layout.{depthOf, channelOf, channelsOf, plainPack, maskPack, packOf, rawLen}
+use Rattle.leaves.specs.Formats.{bytesPerPixel, bitsPerPixel, maskSource}
+use Rattle.format.proofs.Modes.{no-tail, used-in}
 use Rattle.leaves.specs.Masks.{count, lowest, isOneRun}
 use Rattle.leaves.specs.Sizes.{rowStride}
 use Rattle.rows.specs.StoredRows.{packBits, LayoutOk, PackOk}
 use Rattle.format.specs.Accepted.{MasksAccepted}
-use Rattle.format.specs.File.{Mode, masked, calibrated, profiled, plain, modeOf, depthIn, channelOf, layoutOf, plainPack, packIn, tailOf, rawBytes, headBytes, streamOf, budget, streamUsed, storedRowsOf, pixels, fileSize, plainSize}
 use Rattle.format.specs.Input.{Input}
-use Rattle.format.specs.Refusals.{maskSource}
 use Rattle.leaves.proofs.Runs.{ends-within, len-run, count-zero}
 use Rattle.rows.proofs.AllRows.{length-storedRows}
-use Rattle.format.proofs.Modes.{no-tail, used-in}
 
 -- masks have cells of at most 32 bits
 pub masked-depth : (d : ℕ) → (d ≡ 16) ⊎ (d ≡ 32) → d ≤ 32
@@ -45,8 +45,8 @@ channel-within m h r = go (eqb m 0) refl
         let p : 0 < m = omega (arith, eqb-false m 0 e) in
         omega (arith, ends-within m p h, len-run m p h r)
 
-layout-ok : (d : ℕ) (masks : List ℕ) → MasksAccepted d masks → LayoutOk (layoutOf d masks)
-unfolding layoutOf
+layout-ok : (d : ℕ) (masks : List ℕ) → MasksAccepted d masks → LayoutOk (channelsOf d masks)
+unfolding channelsOf
 layout-ok d masks a =
     record {
       depth = a .depths;
@@ -84,32 +84,43 @@ plain-ok Indexed4 = (refl, refl)
 plain-ok Indexed2 = (refl, refl)
 plain-ok Indexed1 = (refl, refl)
 
--- the pack of a call whose masks, if they are the mode, were accepted
-pub pack-ok : (mode : Mode) (i : Input) → (mode ≡ masked → MasksAccepted (i .options .bitfields .bpp) (i .options .bitfields .masks)) → (mode ≡ masked → maskSource (i .source .format) ≡ false)
-    → PackOk (packIn mode i) × (packBits (packIn mode i) ≡ depthIn mode i)
-unfolding packIn layoutOf
-pack-ok masked i a s = ((sample-bytes (i .source .format) (s refl), layout-ok (i .options .bitfields .bpp) (i .options .bitfields .masks) (a refl)), refl)
-pack-ok calibrated i a s = plain-ok (i .source .format)
-pack-ok profiled i a s = plain-ok (i .source .format)
-pack-ok plain i a s = plain-ok (i .source .format)
+-- the pack of a call whose masks, if given, were accepted
+pub pack-ok : (i : Input) → (i .options .«has_bitfields» ≡ true → MasksAccepted (i .options .bitfields .bpp) (i .options .bitfields .masks))
+    → (i .options .«has_bitfields» ≡ true → maskSource (i .source .format) ≡ false) → PackOk (packIn i) × (packBits (packIn i) ≡ depthIn i)
+unfolding packOf depthOf channelsOf
+pack-ok i a s = go (i .options .«has_bitfields») a s
+  where
+    f : BmpPixelFormat
+    f = i .source .format
+
+    d : ℕ
+    d = i .options .bitfields .bpp
+
+    masks : List ℕ
+    masks = i .options .bitfields .masks
+
+    go : (b : Bool) → (b ≡ true → MasksAccepted d masks) → (b ≡ true → maskSource f ≡ false)
+        → PackOk (cond b (maskPack f d masks) (plainPack f)) × (packBits (cond b (maskPack f d masks) (plainPack f)) ≡ cond b d (bitsPerPixel f))
+    go true k l = ((sample-bytes f (l refl), layout-ok d masks (k refl)), refl)
+    go false k l = plain-ok f
 
 -- "the raw bytes are the stored row's length × height"
-pub length-rows : (i : Input) → (modeOf i ≡ masked → MasksAccepted (i .options .bitfields .bpp) (i .options .bitfields .masks)) → (modeOf i ≡ masked → maskSource (i .source .format) ≡ false)
-    → length (storedRowsOf i) ≡ rawBytes i
-unfolding storedRowsOf rawBytes
+pub length-rows : (i : Input) → (i .options .«has_bitfields» ≡ true → MasksAccepted (i .options .bitfields .bpp) (i .options .bitfields .masks))
+    → (i .options .«has_bitfields» ≡ true → maskSource (i .source .format) ≡ false) → length (storedRowsOf i) ≡ rawBytes i
+unfolding storedRowsOf rawLen
 length-rows i a s =
-    let k = pack-ok (modeOf i) i a s in
-    length-storedRows (packIn (modeOf i) i) (k .0) (i .source .width) (i .source .height) (i .options .«top_down») (i .plane) (i .source .stride)
+    let k = pack-ok i a s in
+    length-storedRows (packIn i) (k .0) (i .source .width) (i .source .height) (i .options .«top_down») (i .plane) (i .source .stride)
     ∙ ap (λ (d : ℕ). i .source .height * rowStride (i .source .width) d) (k .1)
-    ∙ mul-comm (i .source .height) (rowStride (i .source .width) (depthIn (modeOf i) i))
+    ∙ mul-comm (i .source .height) (rowStride (i .source .width) (depthIn i))
 
 -- a stream under the budget keeps the file in the limit
-coded-fits : (limit : ℕ) (i : Input) → streamUsed limit i ≡ true → headBytes i + length (streamOf i) + length (tailOf (modeOf i) i) ≤ limit
+coded-fits : (limit : ℕ) (i : Input) → streamUsed limit i ≡ true → headBytes i + length (streamOf i) + length (tailOf i) ≤ limit
 unfolding budget
 coded-fits limit i e =
     let used = used-in limit i e in
     let under : length (streamOf i) < min (rawBytes i) (limit + 1 - headBytes i) = used .under in
-    let alone : length (tailOf (modeOf i) i) ≡ 0 = no-tail i (used .planned) in
+    let alone : length (tailOf i) ≡ 0 = no-tail i (used .planned) in
     omega (arith, alone)
 
 -- a file whose plain form fits, or whose stream is under the budget, fits
@@ -117,6 +128,6 @@ pub file-fits : (limit : ℕ) (i : Input) → length (storedRowsOf i) ≡ rawByt
 unfolding fileSize pixels plainSize
 file-fits limit i rows whole = go (streamUsed limit i) refl
   where
-    go : (b : Bool) → streamUsed limit i ≡ b → headBytes i + length (cond b (streamOf i) (storedRowsOf i)) + length (tailOf (modeOf i) i) ≤ limit
+    go : (b : Bool) → streamUsed limit i ≡ b → headBytes i + length (cond b (streamOf i) (storedRowsOf i)) + length (tailOf i) ≤ limit
     go true e = coded-fits limit i e
     go false e = omega (arith, whole e)

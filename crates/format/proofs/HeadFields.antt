@@ -9,21 +9,25 @@ use borrow.Author.Tests.{ltb-true}
 use lib.Dec.{ltb, eqb}
 use lib.ListN.{length, drop, length-append}
 use lib.Seq.{drop-at}
+use Rattle.leaves.specs.declared.encoder.EncodeSource.{EncodeSource}
+use Rattle.leaves.specs.declared.options.EncodeOptions.{EncodeOptions}
 use Rattle.leaves.specs.declared.image.BmpPixelFormat.{BmpPixelFormat}
 use Rattle.leaves.specs.declared.image.BmpPixelFormat.the-variants.{Rgba, Rgb24, Bgra, Bgr24, Rgb555, Rgb565, Pal8, Indexed4, Indexed2, Indexed1}
 use Rattle.leaves.specs.Bytes.{le16, le32}
-use Rattle.leaves.specs.Formats.{bitsPerPixel}
+use Rattle.format.specs.File.{modeIn, depthIn, rawBytes, entriesOf, headBytes, tailOf, maxFile, streamUsed, pixels, tableEntry, colourTable, storedHeight, compressionOf, imageSize, pelsPerMeter, headOf, fileSize, fileOf}
+use Rattle.format.specs.Layout.{depthOf, headerSize, headRest, headLen, rowsCompression}
+use Rattle.leaves.specs.Formats.{bitsPerPixel, isRgb565}
+use Rattle.format.specs.declared.layout.Mode.{Mode}
+use Rattle.format.specs.declared.layout.Mode.the-variants.{Masked, Calibrated, Profiled, Plain}
+use Rattle.format.proofs.FileSizes.{masked-depth}
 use Rattle.leaves.specs.Masks.{hasAlphaMask}
 use Rattle.leaves.specs.Sizes.{paletteEntryCount, clrUsed}
 use Rattle.format.specs.Headers.{fileHeader, infoHeader, v5Fields}
 use Rattle.format.specs.Input.{Input}
-use Rattle.format.specs.File.{Mode, masked, calibrated, profiled, plain, modeOf, tailOf, depthIn, entriesOf, tableEntry, colourTable, isRgb565, headerSize, headRest, headBytes, rawBytes, streamUsed, maxFile, pixels, storedHeight, compressionOf, imageSize, pelsPerMeter, headOf, fileSize, fileOf}
 use Rattle.format.specs.Accepted.{Accepted}
 use Rattle.format.specs.Readers.{wordAt, dwordAt, Fields, fieldsOf}
 use Rattle.leaves.proofs.ListLaws.{length-cat}
 use Rattle.leaves.proofs.TableCounts.{entries-le}
-use Rattle.format.proofs.FileSizes.{masked-depth}
-use Rattle.format.proofs.Modes.{masks-given}
 
 -- ---- numbers
 
@@ -63,20 +67,18 @@ choice-le false x y n h k = k
 
 -- a header has at most 124 bytes
 header-le : (m : Mode) (f : BmpPixelFormat) → headerSize m f ≤ 124
-header-le masked f = omega arith
-header-le calibrated f = omega arith
-header-le profiled f = omega arith
-header-le plain f = choice-le (isRgb565 f) 108 40 124 (omega arith) (omega arith)
+header-le Masked f = omega arith
+header-le Calibrated f = omega arith
+header-le Profiled f = omega arith
+header-le Plain f = choice-le (isRgb565 f) 108 40 124 (omega arith) (omega arith)
 
 -- a compression is at most 6
-compression-le : (m : Mode) (i : Input) → compressionOf maxFile m i ≤ 6
-unfolding compressionOf
-compression-le masked i = choice-le (hasAlphaMask (i .options .bitfields .masks)) 6 3 6 (omega arith) (omega arith)
-compression-le calibrated i = choice-le (isRgb565 (i .source .format)) 3 0 6 (omega arith) (omega arith)
-compression-le profiled i = choice-le (isRgb565 (i .source .format)) 3 0 6 (omega arith) (omega arith)
-compression-le plain i =
+compression-le : (i : Input) → compressionOf maxFile i ≤ 6
+unfolding compressionOf rowsCompression
+compression-le i =
     choice-le (streamUsed maxFile i) _ _ 6 (choice-le (eqb (bitsPerPixel (i .source .format)) 8) 1 2 6 (omega arith) (omega arith))
-    (choice-le (isRgb565 (i .source .format)) 3 0 6 (omega arith) (omega arith))
+    (choice-le (i .options .«has_bitfields») _ _ 6 (choice-le (hasAlphaMask (i .options .bitfields .masks)) 6 3 6 (omega arith) (omega arith))
+    (choice-le (isRgb565 (i .source .format)) 3 0 6 (omega arith) (omega arith)))
 
 -- a stored height has 32 bits
 height-lt : (down : Bool) (h : ℕ) → 0 < h → h < 2147483648 → cond down (4294967296 - h) h < 4294967296
@@ -97,11 +99,13 @@ bits-le Indexed2 = omega arith
 bits-le Indexed1 = omega arith
 
 -- an accepted depth is at most 32
-pub depth-le : (m : Mode) (i : Input) → (m ≡ masked → (i .options .bitfields .bpp ≡ 16) ⊎ (i .options .bitfields .bpp ≡ 32)) → depthIn m i ≤ 32
-depth-le masked i d = masked-depth (i .options .bitfields .bpp) (d refl)
-depth-le calibrated i d = bits-le (i .source .format)
-depth-le profiled i d = bits-le (i .source .format)
-depth-le plain i d = bits-le (i .source .format)
+pub depth-le : (s : EncodeSource) (o : EncodeOptions) → (o .«has_bitfields» ≡ true → (o .bitfields .bpp ≡ 16) ⊎ (o .bitfields .bpp ≡ 32)) → depthOf s o ≤ 32
+unfolding depthOf
+depth-le s o deep = go (o .«has_bitfields») deep
+  where
+    go : (b : Bool) → (b ≡ true → (o .bitfields .bpp ≡ 16) ⊎ (o .bitfields .bpp ≡ 32)) → cond b (o .bitfields .bpp) (bitsPerPixel (s .format)) ≤ 32
+    go true d = masked-depth (o .bitfields .bpp) (d refl)
+    go false d = bits-le (s .format)
 
 -- the count of colours is at most 256
 colours-le : (depth entries : ℕ) → clrUsed depth entries ≤ 256
@@ -123,16 +127,16 @@ head-le i a = omega (arith, a .fits)
 abbrev pub firstPart : Input → ℕ → List ℕ
 firstPart i n =
     fileHeader n (headBytes i)
-    ++ infoHeader (headerSize (modeOf i) (i .source .format)) (i .source .width) (storedHeight i) (depthIn (modeOf i) i) (compressionOf maxFile (modeOf i) i)
-    (imageSize i (rawBytes i)) pelsPerMeter pelsPerMeter (clrUsed (depthIn (modeOf i) i) (entriesOf i))
+    ++ infoHeader (headerSize (modeIn i) (i .source .format)) (i .source .width) (storedHeight i) (depthIn i) (compressionOf maxFile i)
+    (imageSize i) pelsPerMeter pelsPerMeter (clrUsed (depthIn i) (entriesOf i))
 
 -- what stands between them and the table
 abbrev pub restPart : Input → List ℕ
-restPart i = headRest (modeOf i) i (headBytes i - 14 + rawBytes i)
+restPart i = headRest (modeIn i) (i .source) (i .options) (length (tailOf i)) (headBytes i - 14 + rawBytes i)
 
 -- the file by its parts
 pub file-parts : (i : Input)
-    → fileOf maxFile i ≡ firstPart i (fileSize maxFile i) ++ (restPart i ++ (colourTable i ++ (pixels maxFile i ++ tailOf (modeOf i) i)))
+    → fileOf maxFile i ≡ firstPart i (fileSize maxFile i) ++ (restPart i ++ (colourTable i ++ (pixels maxFile i ++ tailOf i)))
 unfolding fileOf headOf
 file-parts i = simp append-assoc
 
@@ -150,13 +154,13 @@ length-infoHeader hs w h d c im x y n = refl
 pub first-length : (i : Input) (n : ℕ) → length (firstPart i n) ≡ 54
 first-length i n = simp (length-append, length-fileHeader, length-infoHeader)
 
--- the bytes after the first 54 are as many wherever the profile begins
-pub rest-length : (m : Mode) (i : Input) (at : ℕ) → length (headRest m i at) ≡ length (headRest m i 0)
+-- the bytes after the first 54 are as many whatever the profile
+pub rest-length : (m : Mode) (s : EncodeSource) (o : EncodeOptions) (n at : ℕ) → length (headRest m s o n at) ≡ length (headRest m s o 0 0)
 unfolding headRest v5Fields le32
-rest-length masked i at = refl
-rest-length calibrated i at = refl
-rest-length profiled i at = simp length-append
-rest-length plain i at = refl
+rest-length Masked s o n at = refl
+rest-length Calibrated s o n at = refl
+rest-length Profiled s o n at = simp length-append
+rest-length Plain s o n at = refl
 
 -- the table has four bytes for each entry
 pub table-length : (i : Input) → length (colourTable i) ≡ 4 * entriesOf i
@@ -164,28 +168,28 @@ unfolding colourTable tableEntry
 table-length i = length-cat (tableEntry (i .palette)) 4 (entriesOf i) (λ k l. refl) ∙ omega arith
 
 -- the head's bytes by its parts
-head-parts : (i : Input) (c raw n : ℕ) → length (headOf i c raw n) ≡ 54 + length (headRest (modeOf i) i 0) + 4 * entriesOf i
+head-parts : (i : Input) (c im x y n : ℕ) → length (headOf i c im x y n) ≡ 54 + length (headRest (modeIn i) (i .source) (i .options) 0 0) + 4 * entriesOf i
 unfolding headOf
-head-parts i c raw n =
-    simp (length-append, rest-length (modeOf i) i (headBytes i - 14 + raw), table-length i, length-fileHeader, length-infoHeader)
+head-parts i c im x y n =
+    simp (length-append, rest-length (modeIn i) (i .source) (i .options) (length (tailOf i)) (headBytes i - 14 + rawBytes i), table-length i, length-fileHeader, length-infoHeader)
 
 -- the head has as many bytes as the offset says
-pub length-head : (i : Input) (c raw n : ℕ) → length (headOf i c raw n) ≡ headBytes i
-unfolding headBytes
-length-head i c raw n = head-parts i c raw n ∙ omega arith
+pub length-head : (i : Input) (c im x y n : ℕ) → length (headOf i c im x y n) ≡ headBytes i
+unfolding headLen
+length-head i c im x y n = head-parts i c im x y n ∙ omega arith
 
 -- the pixels stand where the head ends
-pub pixels-at : (i : Input) → drop (headBytes i) (fileOf maxFile i) ≡ pixels maxFile i ++ tailOf (modeOf i) i
+pub pixels-at : (i : Input) → drop (headBytes i) (fileOf maxFile i) ≡ pixels maxFile i ++ tailOf i
 unfolding fileOf
 pixels-at i =
     rw append-assoc
-    (drop-at (headOf i (compressionOf maxFile (modeOf i) i) (rawBytes i) (fileSize maxFile i)) (pixels maxFile i ++ tailOf (modeOf i) i) (headBytes i)
-    (length-head i (compressionOf maxFile (modeOf i) i) (rawBytes i) (fileSize maxFile i)))
+    (drop-at (headOf i (compressionOf maxFile i) (imageSize i) pelsPerMeter pelsPerMeter (fileSize maxFile i)) (pixels maxFile i ++ tailOf i) (headBytes i)
+    (length-head i (compressionOf maxFile i) (imageSize i) pelsPerMeter pelsPerMeter (fileSize maxFile i)))
 
 -- the file is as long as its size says
 pub length-file : (i : Input) → length (fileOf maxFile i) ≡ fileSize maxFile i
 unfolding fileOf fileSize
-length-file i = simp (length-append, length-head i (compressionOf maxFile (modeOf i) i) (rawBytes i) (fileSize maxFile i)) (omega arith)
+length-file i = simp (length-append, length-head i (compressionOf maxFile i) (imageSize i) pelsPerMeter pelsPerMeter (fileSize maxFile i)) (omega arith)
 
 -- ---- the file's fields
 
@@ -194,21 +198,21 @@ abbrev pub fieldsIn : Input → Fields
 fieldsIn i =
     record {
       offset = headBytes i;
-      headerSize = headerSize (modeOf i) (i .source .format);
+      headerSize = headerSize (modeIn i) (i .source .format);
       width = i .source .width;
       height = storedHeight i;
-      depth = depthIn (modeOf i) i;
-      compression = compressionOf maxFile (modeOf i) i;
-      colours = clrUsed (depthIn (modeOf i) i) (entriesOf i);
+      depth = depthIn i;
+      compression = compressionOf maxFile i;
+      colours = clrUsed (depthIn i) (entriesOf i);
     }
 
 -- are the ones that the readers take
 pub fields-read : (i : Input) → Accepted i → fieldsOf (fileOf maxFile i) ≡ fieldsIn i
 fields-read i a =
     rw (file-parts i)
-    (first-fields (fileSize maxFile i) (headBytes i) (headerSize (modeOf i) (i .source .format)) (i .source .width) (storedHeight i) (depthIn (modeOf i) i)
-    (compressionOf maxFile (modeOf i) i) (imageSize i (rawBytes i)) pelsPerMeter pelsPerMeter (clrUsed (depthIn (modeOf i) i) (entriesOf i))
-    (restPart i ++ (colourTable i ++ (pixels maxFile i ++ tailOf (modeOf i) i))) (omega (arith, head-le i a))
-    (omega (arith, header-le (modeOf i) (i .source .format))) (omega (arith, a .wide)) (height-lt (i .options .«top_down») (i .source .height) (a .some-height) (a .tall))
-    (omega (arith, depth-le (modeOf i) i (λ e. a .masks (masks-given i e) .depths))) (omega (arith, compression-le (modeOf i) i))
-    (omega (arith, colours-le (depthIn (modeOf i) i) (entriesOf i))))
+    (first-fields (fileSize maxFile i) (headBytes i) (headerSize (modeIn i) (i .source .format)) (i .source .width) (storedHeight i) (depthIn i)
+    (compressionOf maxFile i) (imageSize i) pelsPerMeter pelsPerMeter (clrUsed (depthIn i) (entriesOf i))
+    (restPart i ++ (colourTable i ++ (pixels maxFile i ++ tailOf i))) (omega (arith, head-le i a))
+    (omega (arith, header-le (modeIn i) (i .source .format))) (omega (arith, a .wide)) (height-lt (i .options .«top_down») (i .source .height) (a .some-height) (a .tall))
+    (omega (arith, depth-le (i .source) (i .options) (λ e. a .masks e .depths))) (omega (arith, compression-le i))
+    (omega (arith, colours-le (depthIn i) (entriesOf i))))

@@ -10,13 +10,16 @@ use Rattle.leaves.specs.Bytes.{le16, le32}
 use Rattle.leaves.specs.Masks.{hasAlphaMask}
 use Rattle.format.specs.Headers.{dwords, fileHeader, infoHeader, v4Fields, v5Fields, longs}
 use Rattle.format.specs.Input.{Input}
-use Rattle.format.specs.File.{Mode, masked, calibrated, profiled, plain, modeOf, tailOf, colourTable, isRgb565, longMasks, maskTail, headRest, headBytes, rawBytes, maxFile, pixels, fileSize, fileOf}
-use Rattle.format.specs.Accepted.{Accepted}
-use Rattle.format.specs.Refusals.{maskSource}
-use Rattle.format.specs.Readers.{wordAt, dwordAt}
+use Rattle.format.specs.File.{modeIn, rawBytes, headBytes, tailOf, maxFile, pixels, colourTable, fileSize, fileOf}
+use Rattle.format.specs.Layout.{isMasked, longMasks, maskTail, headRest}
+use Rattle.leaves.specs.Formats.{isRgb565, maskSource}
+use Rattle.format.specs.declared.layout.Mode.{Mode}
+use Rattle.format.specs.declared.layout.Mode.the-variants.{Masked, Calibrated, Profiled, Plain}
+use Rattle.format.proofs.Modes.{given-mode, mask-mode}
 use Rattle.format.proofs.FileSizes.{mask-lt}
 use Rattle.format.proofs.HeadFields.{dword-bytes, firstPart, file-parts}
-use Rattle.format.proofs.Modes.{masks-given}
+use Rattle.format.specs.Accepted.{Accepted}
+use Rattle.format.specs.Readers.{wordAt, dwordAt}
 
 -- the colour masks that a reader finds
 pub record ColourMasks (file : List ℕ) (red green blue : ℕ) : Type 0 where
@@ -56,33 +59,36 @@ alpha-bytes masks more e = mask-bytes masks more ∙ rw e
 module _ (i : Input) where
   -- what follows the masks
   abbrev afterRest : List ℕ
-  afterRest = colourTable i ++ (pixels maxFile i ++ tailOf (modeOf i) i)
+  afterRest = colourTable i ++ (pixels maxFile i ++ tailOf i)
 
   -- the file by its mode
-  mode-file : (m : Mode) → modeOf i ≡ m → fileOf maxFile i ≡ firstPart i (fileSize maxFile i) ++ (headRest m i (headBytes i - 14 + rawBytes i) ++ afterRest)
-  mode-file m e = file-parts i ∙ ap (λ (n : Mode). firstPart i (fileSize maxFile i) ++ (headRest n i (headBytes i - 14 + rawBytes i) ++ afterRest)) e
+  mode-file : (m : Mode) → modeIn i ≡ m
+      → fileOf maxFile i ≡ firstPart i (fileSize maxFile i) ++ (headRest m (i .source) (i .options) (length (tailOf i)) (headBytes i - 14 + rawBytes i) ++ afterRest)
+  mode-file m e =
+      file-parts i
+      ∙ ap (λ (n : Mode). firstPart i (fileSize maxFile i) ++ (headRest n (i .source) (i .options) (length (tailOf i)) (headBytes i - 14 + rawBytes i) ++ afterRest)) e
 
   module _ (a : Accepted i) where
     -- every mask has 32 bits
-    small : modeOf i ≡ masked → (k : ℕ) → k < 4 → getD (i .options .bitfields .masks) k 0 < 4294967296
-    small e = mask-lt (i .options .bitfields .bpp) (i .options .bitfields .masks) (a .masks (masks-given i e))
+    small : i .options .«has_bitfields» ≡ true → (k : ℕ) → k < 4 → getD (i .options .bitfields .masks) k 0 < 4294967296
+    small e = mask-lt (i .options .bitfields .bpp) (i .options .bitfields .masks) (a .masks e)
 
     -- the colour masks are the ones handed in
-    pub masks-read : modeOf i ≡ masked
+    pub masks-read : i .options .«has_bitfields» ≡ true
         → ColourMasks (fileOf maxFile i) (getD (i .options .bitfields .masks) 0 0) (getD (i .options .bitfields .masks) 1 0) (getD (i .options .bitfields .masks) 2 0)
     unfolding headRest
     masks-read e =
-        rw (mode-file masked e, mask-bytes (i .options .bitfields .masks) afterRest)
+        rw (mode-file Masked (mask-mode i e), mask-bytes (i .options .bitfields .masks) afterRest)
         (behind i (fileSize maxFile i) (getD (i .options .bitfields .masks) 0 0) (getD (i .options .bitfields .masks) 1 0) (getD (i .options .bitfields .masks) 2 0)
         (dwords (cond (hasAlphaMask (i .options .bitfields .masks)) (getD (i .options .bitfields .masks) 3 0 ∷ []) []) ++ afterRest)
         (small e 0 (omega arith)) (small e 1 (omega arith)) (small e 2 (omega arith)))
 
     -- and so is a nonzero alpha mask
-    pub alpha-read : modeOf i ≡ masked → hasAlphaMask (i .options .bitfields .masks) ≡ true
+    pub alpha-read : i .options .«has_bitfields» ≡ true → hasAlphaMask (i .options .bitfields .masks) ≡ true
         → dwordAt (fileOf maxFile i) 66 ≡ getD (i .options .bitfields .masks) 3 0
     unfolding headRest
     alpha-read e h =
-        rw (mode-file masked e, alpha-bytes (i .options .bitfields .masks) afterRest h)
+        rw (mode-file Masked (mask-mode i e), alpha-bytes (i .options .bitfields .masks) afterRest h)
         (fourth i (fileSize maxFile i) (getD (i .options .bitfields .masks) 0 0) (getD (i .options .bitfields .masks) 1 0) (getD (i .options .bitfields .masks) 2 0)
         (getD (i .options .bitfields .masks) 3 0) afterRest (small e 3 (omega arith)))
 
@@ -101,22 +107,25 @@ tested-masks i n masks space ends gammas more true t e = long-masks i n masks sp
 tested-masks i n masks space ends gammas more false t e = absurd (false≢true t)
 
 -- by the mode
-mode-565 : (i : Input) (n at : ℕ) (more : List ℕ) (m : Mode) → (m ≡ masked → ⊥) → i .source .format ≡ Rgb565
-    → ColourMasks (firstPart i n ++ (headRest m i at ++ more)) 0xF800 0x07E0 0x001F
+mode-565 : (i : Input) (n size at : ℕ) (more : List ℕ) (m : Mode) → isMasked m ≡ false → i .source .format ≡ Rgb565
+    → ColourMasks (firstPart i n ++ (headRest m (i .source) (i .options) size at ++ more)) 0xF800 0x07E0 0x001F
 unfolding headRest
-mode-565 i n at more masked never e = absurd (never refl)
-mode-565 i n at more calibrated never e =
+mode-565 i n size at more Masked never e = absurd (false≢true (sym never))
+mode-565 i n size at more Calibrated never e =
     long-masks i n (longMasks (i .source .format)) 0 (longs (i .options .«calibrated_rgb» .endpoints)) (i .options .«calibrated_rgb» .gamma) more (ap longMasks e)
-mode-565 i n at more profiled never e =
+mode-565 i n size at more Profiled never e =
     rw (append-assoc (v4Fields (longMasks (i .source .format)) (cond (i .source .«has_linked_icc») 0x4C494E4B 0x4D424544) (replicate 9 0) (replicate 3 0)))
     (long-masks i n (longMasks (i .source .format)) (cond (i .source .«has_linked_icc») 0x4C494E4B 0x4D424544) (replicate 9 0) (replicate 3 0)
-    (v5Fields (i .options .«rendering_intent») at (length (tailOf profiled i)) ++ more) (ap longMasks e))
-mode-565 i n at more plain never e =
+    (v5Fields (i .options .«rendering_intent») at size ++ more) (ap longMasks e))
+mode-565 i n size at more Plain never e =
     tested-masks i n (longMasks (i .source .format)) 0x73524742 (replicate 9 0) (replicate 3 0) more (isRgb565 (i .source .format)) (ap isRgb565 e) (ap longMasks e)
 
 -- an accepted Rgb565 source has no masks of its own, and the file has those of Rgb565
 pub rgb565-read : (i : Input) → Accepted i → i .source .format ≡ Rgb565 → ColourMasks (fileOf maxFile i) 0xF800 0x07E0 0x001F
 rgb565-read i a e =
-    rw (mode-file i (modeOf i) refl)
-    (mode-565 i (fileSize maxFile i) (headBytes i - 14 + rawBytes i) (afterRest i) (modeOf i)
-    (λ m. absurd (false≢true (sym (a .samples (masks-given i m)) ∙ ap maskSource e))) e)
+    rw (mode-file i (modeIn i) refl)
+    (mode-565 i (fileSize maxFile i) (length (tailOf i)) (headBytes i - 14 + rawBytes i) (afterRest i) (modeIn i) (unmasked (isMasked (modeIn i)) (given-mode (i .source) (i .options))) e)
+  where
+    unmasked : (b : Bool) → i .options .«has_bitfields» ≡ b → b ≡ false
+    unmasked true q = absurd (false≢true (sym (a .samples q) ∙ ap maskSource e))
+    unmasked false q = refl

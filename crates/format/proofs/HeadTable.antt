@@ -7,28 +7,33 @@ use Prim.Native.Nat.{ℕ, _+_, _-_, _*_, _/_, _^_, _≤_, _<_}
 use native.Mathlib.Omega.{arith}
 use borrow.Author.Tests.{ltb-false, eqb-true}
 use lib.Dec.{ltb, leb, eqb}
+use lib.IntN.{ℤ}
 use lib.ListN.{length, getD, replicate, length-append, length-map, List·getD-append}
 use lib.Seq.{getD-append-add}
 use mir.Syntax.{w32}
 use mir.Val.{ofZ}
+use Rattle.leaves.specs.declared.encoder.EncodeSource.{EncodeSource}
+use Rattle.leaves.specs.declared.options.EncodeOptions.{EncodeOptions}
 use Rattle.leaves.specs.declared.image.BmpPixelFormat.{BmpPixelFormat}
 use Rattle.leaves.specs.declared.image.BmpPixelFormat.the-variants.{Rgba, Rgb24, Bgra, Bgr24, Rgb555, Rgb565, Pal8, Indexed4, Indexed2, Indexed1}
 use Rattle.leaves.specs.Bytes.{le32}
-use Rattle.leaves.specs.Formats.{bitsPerPixel, isIndexed}
+use Rattle.format.specs.File.{modeIn, depthIn, rawBytes, entriesOf, headBytes, tailOf, maxFile, pixels, tableEntry, colourTable, fileSize, fileOf}
+use Rattle.format.specs.Layout.{isMasked, depthOf, tableEntries, headerSize, longMasks, maskTail, headRest}
+use Rattle.leaves.specs.Formats.{bitsPerPixel, isIndexed, isRgb565, maskSource}
+use Rattle.format.specs.declared.layout.Mode.{Mode}
+use Rattle.format.specs.declared.layout.Mode.the-variants.{Masked, Calibrated, Profiled, Plain}
+use Rattle.format.proofs.Modes.{given-mode}
+use Rattle.format.proofs.HeadFields.{firstPart, restPart, file-parts, first-length, rest-length, table-length, fields-read}
 use Rattle.leaves.specs.Sizes.{paletteEntryCount, writtenPaletteEntries, clrUsed}
 use Rattle.format.specs.Headers.{dwords, v4Fields, v5Fields, longs}
 use Rattle.leaves.specs.Masks.{hasAlphaMask}
 use Rattle.format.specs.Input.{Input}
-use Rattle.format.specs.File.{Mode, masked, calibrated, profiled, plain, modeOf, tailOf, depthIn, entriesOf, tableEntry, colourTable, isRgb565, headerSize, longMasks, maskTail, headRest, headBytes, rawBytes, maxFile, pixels, fileSize, fileOf}
 use Rattle.format.specs.Accepted.{Accepted}
-use Rattle.format.specs.Refusals.{maskSource}
 use Rattle.format.specs.Expectation.{coloursShown, paletteShown}
 use Rattle.format.specs.Shown.{rgb}
 use Rattle.format.specs.Readers.{Fields, fieldsOf, tableCount, paletteOf}
 use Rattle.leaves.proofs.ListLaws.{tab-ext, getD-cat}
 use Rattle.leaves.proofs.TableCounts.{written-le, written-some}
-use Rattle.format.proofs.HeadFields.{firstPart, restPart, file-parts, first-length, rest-length, table-length, fields-read}
-use Rattle.format.proofs.Modes.{masks-given}
 
 -- ---- lengths of the longer headers
 
@@ -63,28 +68,27 @@ four-masks Indexed4 = refl
 four-masks Indexed2 = refl
 four-masks Indexed1 = refl
 
-longs-length : (i : Input) → length (longs (i .options .«calibrated_rgb» .endpoints)) ≡ length (i .options .«calibrated_rgb» .endpoints)
+pub longs-length : (zs : List ℤ) → length (longs zs) ≡ length zs
 unfolding longs
-longs-length i = length-map (i .options .«calibrated_rgb» .endpoints) (ofZ w32)
+longs-length zs = length-map zs (ofZ w32)
 
 -- without masks, the header ends where the table begins
-pub header-fills : (i : Input) → length (i .options .«calibrated_rgb» .endpoints) ≡ 9 → length (i .options .«calibrated_rgb» .gamma) ≡ 3 → (m : Mode) → (m ≡ masked → ⊥)
-    → 54 + length (headRest m i 0) ≡ 14 + headerSize m (i .source .format)
+pub header-fills : (s : EncodeSource) (o : EncodeOptions) → length (o .«calibrated_rgb» .endpoints) ≡ 9 → length (o .«calibrated_rgb» .gamma) ≡ 3 → (m : Mode) → isMasked m ≡ false
+    → 54 + length (headRest m s o 0 0) ≡ 14 + headerSize m (s .format)
 unfolding headRest v5Fields le32
-header-fills i nine three masked never = absurd (never refl)
-header-fills i nine three calibrated never =
-    rw (v4-length (longMasks (i .source .format)) 0 (longs (i .options .«calibrated_rgb» .endpoints)) (i .options .«calibrated_rgb» .gamma)
-    (four-masks (i .source .format)) (longs-length i ∙ nine) three)
-header-fills i nine three profiled never =
+header-fills s o nine three Masked never = absurd (false≢true (sym never))
+header-fills s o nine three Calibrated never =
+    rw (v4-length (longMasks (s .format)) 0 (longs (o .«calibrated_rgb» .endpoints)) (o .«calibrated_rgb» .gamma)
+    (four-masks (s .format)) (longs-length (o .«calibrated_rgb» .endpoints) ∙ nine) three)
+header-fills s o nine three Profiled never =
     simp (
       length-append,
-      v4-length (longMasks (i .source .format)) (cond (i .source .«has_linked_icc») 0x4C494E4B 0x4D424544) (replicate 9 0) (replicate 3 0)
-          (four-masks (i .source .format)) refl refl,
+      v4-length (longMasks (s .format)) (cond (s .«has_linked_icc») 0x4C494E4B 0x4D424544) (replicate 9 0) (replicate 3 0) (four-masks (s .format)) refl refl,
     )
-header-fills i nine three plain never = go (isRgb565 (i .source .format))
+header-fills s o nine three Plain never = go (isRgb565 (s .format))
   where
-    go : (b : Bool) → 54 + length (cond b (v4Fields (longMasks (i .source .format)) 0x73524742 (replicate 9 0) (replicate 3 0)) []) ≡ 14 + cond b 108 40
-    go true = rw (v4-length (longMasks (i .source .format)) 0x73524742 (replicate 9 0) (replicate 3 0) (four-masks (i .source .format)) refl refl)
+    go : (b : Bool) → 54 + length (cond b (v4Fields (longMasks (s .format)) 0x73524742 (replicate 9 0) (replicate 3 0)) []) ≡ 14 + cond b 108 40
+    go true = rw (v4-length (longMasks (s .format)) 0x73524742 (replicate 9 0) (replicate 3 0) (four-masks (s .format)) refl refl)
     go false = refl
 
 -- ---- the table's count
@@ -168,25 +172,28 @@ no-entries true n never = absurd (never refl)
 no-entries false n never = refl
 
 module _ (i : Input) (a : Accepted i) where
-  -- the masks' mode has no indexed source
-  no-masks : isIndexed (i .source .format) ≡ true → modeOf i ≡ masked → ⊥
-  no-masks e m = indexed-refused (i .source .format) e (a .samples (masks-given i m))
+  -- masks have no indexed source
+  no-masks : isIndexed (i .source .format) ≡ true → (b : Bool) → i .options .«has_bitfields» ≡ b → b ≡ false
+  no-masks e true m = absurd (indexed-refused (i .source .format) e (a .samples m))
+  no-masks e false m = refl
 
-  -- by the mode
-  mode-count : (m : Mode) → modeOf i ≡ m → countIn (depthIn m i) (clrUsed (depthIn m i) (entriesOf i)) ≡ entriesOf i
-  unfolding entriesOf
-  mode-count masked e =
-      deep-count (i .options .bitfields .bpp) (clrUsed (i .options .bitfields .bpp) (entriesOf i)) (a .masks (masks-given i e) .depths)
-      ∙ sym (no-entries (isIndexed (i .source .format)) (writtenPaletteEntries (bitsPerPixel (i .source .format)) (length (i .palette) / 4) (i .options .«minimal_palette»))
-      (λ h. no-masks h e))
-  mode-count calibrated e = plain-count (i .source .format) (length (i .palette) / 4) (i .options .«minimal_palette»)
-  mode-count profiled e = plain-count (i .source .format) (length (i .palette) / 4) (i .options .«minimal_palette»)
-  mode-count plain e = plain-count (i .source .format) (length (i .palette) / 4) (i .options .«minimal_palette»)
+  -- by whether masks are given
+  entry-count : countIn (depthIn i) (clrUsed (depthIn i) (entriesOf i)) ≡ entriesOf i
+  unfolding tableEntries depthOf
+  entry-count = go (i .options .«has_bitfields») refl
+    where
+      go : (b : Bool) → i .options .«has_bitfields» ≡ b
+          → countIn (cond b (i .options .bitfields .bpp) (bitsPerPixel (i .source .format))) (clrUsed (cond b (i .options .bitfields .bpp) (bitsPerPixel (i .source .format))) (entriesOf i)) ≡ entriesOf i
+      go true e =
+          deep-count (i .options .bitfields .bpp) (clrUsed (i .options .bitfields .bpp) (entriesOf i)) (a .masks e .depths)
+          ∙ sym (no-entries (isIndexed (i .source .format)) (writtenPaletteEntries (bitsPerPixel (i .source .format)) (length (i .palette) / 4) (i .options .«minimal_palette»))
+          (λ h. false≢true (sym (no-masks h true e))))
+      go false e = plain-count (i .source .format) (length (i .palette) / 4) (i .options .«minimal_palette»)
 
   -- the readers count the entries written
   pub count-read : tableCount (fieldsOf (fileOf maxFile i)) ≡ entriesOf i
   unfolding tableCount
-  count-read = rw (fields-read i a) (mode-count (modeOf i) refl)
+  count-read = rw (fields-read i a) entry-count
 
 -- ---- the table's bytes
 
@@ -201,29 +208,30 @@ passed false n k h = absurd (omega arith)
 
 module _ (i : Input) (a : Accepted i) where
   -- where there is an entry, there are no masks
-  entry-plain : (k : ℕ) → k < entriesOf i → modeOf i ≡ masked → ⊥
-  unfolding entriesOf
+  entry-plain : (k : ℕ) → k < entriesOf i → isMasked (modeIn i) ≡ false
+  unfolding tableEntries
   entry-plain k h =
       no-masks i a (passed (isIndexed (i .source .format))
-      (writtenPaletteEntries (bitsPerPixel (i .source .format)) (length (i .palette) / 4) (i .options .«minimal_palette»)) k h)
+      (writtenPaletteEntries (bitsPerPixel (i .source .format)) (length (i .palette) / 4) (i .options .«minimal_palette»)) k h) (isMasked (modeIn i)) (given-mode (i .source) (i .options))
 
   -- byte j of entry k, by its place behind the header
-  table-byte : (k j q : ℕ) → k < entriesOf i → j < 4 → q ≡ 14 + headerSize (modeOf i) (i .source .format) + (k * 4 + j)
+  table-byte : (k j q : ℕ) → k < entriesOf i → j < 4 → q ≡ 14 + headerSize (modeIn i) (i .source .format) + (k * 4 + j)
       → getD (fileOf maxFile i) q 0 ≡ getD (tableEntry (i .palette) k) j 0
   unfolding colourTable tableEntry
   table-byte k j q h l e =
-      let place : q ≡ 54 + (length (headRest (modeOf i) i 0) + (k * 4 + j)) = omega (arith, header-fills i (a .nine-endpoints) (a .three-gammas) (modeOf i) (entry-plain k h)) in
+      let n : ℕ = length (headRest (modeIn i) (i .source) (i .options) 0 0) in
+      let place : q ≡ 54 + (n + (k * 4 + j)) = omega (arith, header-fills (i .source) (i .options) (a .nine-endpoints) (a .three-gammas) (modeIn i) (entry-plain k h)) in
       rw (file-parts i, place)
-      (past (firstPart i (fileSize maxFile i)) (restPart i ++ (colourTable i ++ (pixels maxFile i ++ tailOf (modeOf i) i))) 54
-      (length (headRest (modeOf i) i 0) + (k * 4 + j)) (first-length i (fileSize maxFile i))
-      ∙ past (restPart i) (colourTable i ++ (pixels maxFile i ++ tailOf (modeOf i) i)) (length (headRest (modeOf i) i 0)) (k * 4 + j)
-      (rest-length (modeOf i) i (headBytes i - 14 + rawBytes i))
-      ∙ List·getD-append (colourTable i) (pixels maxFile i ++ tailOf (modeOf i) i) 0 (k * 4 + j) (omega (arith, table-length i))
+      (past (firstPart i (fileSize maxFile i)) (restPart i ++ (colourTable i ++ (pixels maxFile i ++ tailOf i))) 54
+      (n + (k * 4 + j)) (first-length i (fileSize maxFile i))
+      ∙ past (restPart i) (colourTable i ++ (pixels maxFile i ++ tailOf i)) n (k * 4 + j)
+      (rest-length (modeIn i) (i .source) (i .options) (length (tailOf i)) (headBytes i - 14 + rawBytes i))
+      ∙ List·getD-append (colourTable i) (pixels maxFile i ++ tailOf i) 0 (k * 4 + j) (omega (arith, table-length i))
       ∙ getD-cat (tableEntry (i .palette)) 4 (entriesOf i) k j 0 (λ n m. refl) l h)
 
   -- as many entries are read as must be shown
   colours-read : tableCount (fieldsOf (fileOf maxFile i)) ≡ coloursShown (i .source .format) (length (i .palette) / 4) (i .options .«minimal_palette»)
-  unfolding entriesOf
+  unfolding tableEntries
   colours-read = count-read i a ∙ entries-shown (i .source .format) (length (i .palette) / 4) (i .options .«minimal_palette»)
 
   -- the readers' palette is the one handed in
@@ -233,7 +241,7 @@ module _ (i : Input) (a : Accepted i) where
       rw colours-read
       (tab-ext _ _ (coloursShown (i .source .format) (length (i .palette) / 4) (i .options .«minimal_palette»)) (λ k l.
       let here : k < entriesOf i = omega (arith, colours-read, count-read i a) in
-      let size : fieldsOf (fileOf maxFile i) .headerSize ≡ headerSize (modeOf i) (i .source .format) = ap (λ (t : Fields). t .headerSize) (fields-read i a) in
+      let size : fieldsOf (fileOf maxFile i) .headerSize ≡ headerSize (modeIn i) (i .source .format) = ap (λ (t : Fields). t .headerSize) (fields-read i a) in
       let four : k * 4 ≡ 4 * k = omega arith in
       let red : getD (fileOf maxFile i) (14 + fieldsOf (fileOf maxFile i) .headerSize + k * 4 + 2) 0 ≡ getD (i .palette) (4 * k) 0
       = table-byte k 2 _ here (omega arith) (omega arith) ∙ ap (λ (z : ℕ). getD (i .palette) z 0) four in

@@ -1,73 +1,91 @@
 -- The readers find the whole head in the file.
-use mathlib.Core.Path.{_≡_, refl, ap}
-use mathlib.Core.Bool.{Bool, true, false, cond}
-use mathlib.Core.List.{[], _∷_}
+use mathlib.Core.Path.{_≡_, refl, sym, ap, _∙_}
+use mathlib.Core.Bool.{Bool, true, false, false≢true, cond}
+use mathlib.Core.List.{List, [], _∷_}
 use Prim.Native.Nat.{ℕ, _+_, _*_, _≤_}
 use native.Mathlib.Omega.{arith}
 use lib.Dec.{eqb}
 use lib.ListN.{length, getD}
+use Rattle.leaves.specs.declared.image.BmpPixelFormat.{BmpPixelFormat}
 use Rattle.leaves.specs.Bytes.{le32}
-use Rattle.leaves.specs.Formats.{bitsPerPixel}
-use Rattle.leaves.specs.Masks.{hasAlphaMask}
-use Rattle.format.specs.Headers.{dwords}
-use Rattle.format.specs.Input.{Input}
-use Rattle.format.specs.File.{Mode, masked, calibrated, profiled, plain, modeOf, isRgb565, headerSize, maskTail, headRest, headBytes, entriesOf, streamUsed, maxFile, compressionOf, fileSize, fileOf}
-use Rattle.format.specs.Accepted.{Accepted}
-use Rattle.format.specs.Readers.{Fields, fieldsOf, tableCount, headNeeds}
+use Rattle.format.specs.File.{modeIn, entriesOf, maxFile, streamUsed, compressionOf, fileSize, fileOf}
+use Rattle.format.specs.Layout.{isMasked, headerSize, maskTail, headRest, headLen, plainCompression, rowsCompression}
+use Rattle.leaves.specs.Formats.{bitsPerPixel, isRgb565}
+use Rattle.format.specs.declared.layout.Mode.{Mode}
+use Rattle.format.specs.declared.layout.Mode.the-variants.{Masked, Calibrated, Profiled, Plain}
+use Rattle.format.proofs.Modes.{given-mode, mask-mode}
 use Rattle.format.proofs.HeadFields.{length-file, fields-read}
 use Rattle.format.proofs.HeadTable.{header-fills, count-read}
-use Rattle.format.proofs.Modes.{not-masked}
+use Rattle.leaves.specs.Masks.{hasAlphaMask, maskCompression}
+use Rattle.format.specs.Headers.{dwords}
+use Rattle.format.specs.Input.{Input}
+use Rattle.format.specs.Accepted.{Accepted}
+use Rattle.format.specs.Readers.{Fields, fieldsOf, tableCount, headNeeds}
 
 -- the bytes up to the last mask that a compression needs
 abbrev masksEnd : ℕ → ℕ
 masksEnd c = cond (eqb c 6) 70 (cond (eqb c 3) 66 54)
 
--- never more than 70
-end-le : (a b : Bool) → cond a 70 (cond b 66 54) ≤ 70
-end-le true b = omega arith
-end-le false true = omega arith
-end-le false false = omega arith
-
--- in mask mode, three masks or four
+-- of masks, three or four
 masked-end : (b : Bool) (p q r s : ℕ) → masksEnd (cond b 6 3) ≤ 54 + length (dwords (p ∷ q ∷ r ∷ cond b (s ∷ []) []))
 unfolding dwords le32
 masked-end true p q r s = omega arith
 masked-end false p q r s = omega arith
 
+-- of a stream, none
+stream-end : (b : Bool) → masksEnd (cond b 1 2) ≤ 54
+stream-end true = omega arith
+stream-end false = omega arith
+
+-- of other rows, those of Rgb565 or none
+long-end : (b : Bool) → masksEnd (cond b 3 0) ≤ 14 + 108
+long-end true = omega arith
+long-end false = omega arith
+
+short-end : (b : Bool) → masksEnd (cond b 3 0) ≤ 14 + cond b 108 40
+short-end true = omega arith
+short-end false = omega arith
+
+rows-end : (f : BmpPixelFormat) (m : Mode) → isMasked m ≡ false → masksEnd (plainCompression f) ≤ 14 + headerSize m f
+rows-end f Masked e = absurd (false≢true (sym e))
+rows-end f Calibrated e = long-end (isRgb565 f)
+rows-end f Profiled e = omega (arith, long-end (isRgb565 f))
+rows-end f Plain e = short-end (isRgb565 f)
+
 module _ (i : Input) (a : Accepted i) where
-  -- in a plain file, the masks of Rgb565 or none
-  plain-end : (used eight sixes : Bool) → masksEnd (cond used (cond eight 1 2) (cond sixes 3 0)) ≤ 14 + cond sixes 108 40
-  plain-end true true true = omega arith
-  plain-end true true false = omega arith
-  plain-end true false true = omega arith
-  plain-end true false false = omega arith
-  plain-end false eight true = omega arith
-  plain-end false eight false = omega arith
+  abbrev restBytes : ℕ
+  restBytes = length (headRest (modeIn i) (i .source) (i .options) 0 0)
+
+  -- without masks the header fills the head
+  fills : (m : Mode) → isMasked m ≡ false → 54 + length (headRest m (i .source) (i .options) 0 0) ≡ 14 + headerSize m (i .source .format)
+  fills = header-fills (i .source) (i .options) (a .nine-endpoints) (a .three-gammas)
 
   -- the masks stand in the head
-  masks-inside : (m : Mode) → masksEnd (compressionOf maxFile m i) ≤ 54 + length (headRest m i 0)
-  unfolding compressionOf headRest maskTail
-  masks-inside masked =
-      masked-end (hasAlphaMask (i .options .bitfields .masks)) (getD (i .options .bitfields .masks) 0 0) (getD (i .options .bitfields .masks) 1 0)
-      (getD (i .options .bitfields .masks) 2 0) (getD (i .options .bitfields .masks) 3 0)
-  masks-inside calibrated =
-      omega (arith, header-fills i (a .nine-endpoints) (a .three-gammas) calibrated (not-masked calibrated refl), end-le (eqb (cond (isRgb565 (i .source .format)) 3 0) 6) (eqb (cond (isRgb565 (i .source .format)) 3 0) 3))
-  masks-inside profiled =
-      omega (arith, header-fills i (a .nine-endpoints) (a .three-gammas) profiled (not-masked profiled refl), end-le (eqb (cond (isRgb565 (i .source .format)) 3 0) 6) (eqb (cond (isRgb565 (i .source .format)) 3 0) 3))
-  masks-inside plain =
-      rw (header-fills i (a .nine-endpoints) (a .three-gammas) plain (not-masked plain refl))
-      (plain-end (streamUsed maxFile i) (eqb (bitsPerPixel (i .source .format)) 8) (isRgb565 (i .source .format)))
+  masks-inside : masksEnd (compressionOf maxFile i) ≤ 54 + restBytes
+  unfolding compressionOf rowsCompression headRest maskTail
+  masks-inside = go (streamUsed maxFile i) (i .options .«has_bitfields») refl
+    where
+      masks : List ℕ
+      masks = i .options .bitfields .masks
+
+      go : (used given : Bool) → i .options .«has_bitfields» ≡ given
+          → masksEnd (cond used (cond (eqb (bitsPerPixel (i .source .format)) 8) 1 2) (cond given (maskCompression masks) (plainCompression (i .source .format)))) ≤ 54 + restBytes
+      go true given e = omega (arith, stream-end (eqb (bitsPerPixel (i .source .format)) 8))
+      go false true e = rw (mask-mode i e) (masked-end (hasAlphaMask masks) (getD masks 0 0) (getD masks 1 0) (getD masks 2 0) (getD masks 3 0))
+      go false false e =
+          let other : isMasked (modeIn i) ≡ false = sym (given-mode (i .source) (i .options)) ∙ e in
+          omega (arith, fills (modeIn i) other, rows-end (i .source .format) (modeIn i) other)
 
   -- the header stands in the head
-  header-inside : (m : Mode) → 14 + headerSize m (i .source .format) ≤ 54 + length (headRest m i 0)
-  header-inside masked = omega arith
-  header-inside calibrated = omega (arith, header-fills i (a .nine-endpoints) (a .three-gammas) calibrated (not-masked calibrated refl))
-  header-inside profiled = omega (arith, header-fills i (a .nine-endpoints) (a .three-gammas) profiled (not-masked profiled refl))
-  header-inside plain = omega (arith, header-fills i (a .nine-endpoints) (a .three-gammas) plain (not-masked plain refl))
+  header-inside : (m : Mode) → 14 + headerSize m (i .source .format) ≤ 54 + length (headRest m (i .source) (i .options) 0 0)
+  header-inside Masked = omega arith
+  header-inside Calibrated = omega (arith, fills Calibrated refl)
+  header-inside Profiled = omega (arith, fills Profiled refl)
+  header-inside Plain = omega (arith, fills Plain refl)
 
   -- the head is in the file
-  head-inside : 54 + length (headRest (modeOf i) i 0) + 4 * entriesOf i ≤ length (fileOf maxFile i)
-  unfolding fileSize headBytes
+  head-inside : 54 + restBytes + 4 * entriesOf i ≤ length (fileOf maxFile i)
+  unfolding fileSize headLen
   head-inside = rw (length-file i) (omega arith)
 
   -- the fields, masks and table that the readers need are in the file
@@ -75,11 +93,11 @@ module _ (i : Input) (a : Accepted i) where
   unfolding headNeeds
   head-long =
       let count : tableCount (fieldsOf (fileOf maxFile i)) ≡ entriesOf i = count-read i a in
-      let size : fieldsOf (fileOf maxFile i) .headerSize ≡ headerSize (modeOf i) (i .source .format) = ap (λ (t : Fields). t .headerSize) (fields-read i a) in
-      let code : fieldsOf (fileOf maxFile i) .compression ≡ compressionOf maxFile (modeOf i) i = ap (λ (t : Fields). t .compression) (fields-read i a) in
-      rw (count, size, code) (omega (arith, head-inside, header-inside (modeOf i), masks-inside (modeOf i)))
+      let size : fieldsOf (fileOf maxFile i) .headerSize ≡ headerSize (modeIn i) (i .source .format) = ap (λ (t : Fields). t .headerSize) (fields-read i a) in
+      let code : fieldsOf (fileOf maxFile i) .compression ≡ compressionOf maxFile i = ap (λ (t : Fields). t .compression) (fields-read i a) in
+      rw (count, size, code) (omega (arith, head-inside, header-inside (modeIn i), masks-inside))
 
 -- the readers' first fields are in every file
 pub first-there : (i : Input) → 54 ≤ length (fileOf maxFile i)
-unfolding fileSize headBytes
+unfolding fileSize headLen
 first-there i = rw (length-file i) (omega arith)

@@ -20,6 +20,8 @@ pub mod PlainBody
 pub mod PlainCells
 pub mod Readings
 pub mod RefusalExamples
+pub mod RowReading
 pub mod SourceRows
 pub mod StreamBody
+pub mod StreamReading
 pub mod Unpacking

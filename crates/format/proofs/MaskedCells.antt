@@ -15,16 +15,15 @@ use Rattle.rows.specs.declared.pack.MaskLayout.{MaskLayout}
 use Rattle.rows.specs.declared.pack.RowPack.the-variants.{Masks}
 use Rattle.leaves.specs.Bytes.{le16, le32}
 use Rattle.leaves.specs.Fit.{fit}
-use Rattle.leaves.specs.Formats.{bytesPerPixel}
+use Rattle.format.specs.Layout.{channelsOf}
+use Rattle.leaves.specs.Formats.{bytesPerPixel, blueFirst, maskSource}
 use Rattle.leaves.specs.Lists.{cat}
 use Rattle.leaves.specs.Masks.{hasAlphaMask, maskCompression}
 use Rattle.leaves.specs.Sizes.{rowStride}
 use Rattle.rows.specs.StoredRows.{padded, redIn, greenIn, blueIn, alphaIn, maskWord, maskCell as cellBytes, storedRow}
 use Rattle.format.specs.Accepted.{MasksAccepted}
 use Rattle.format.specs.Expectation.{pixelBytes, fitted, fittedShown}
-use Rattle.format.specs.File.{blueFirst, layoutOf}
 use Rattle.format.specs.Readers.{wordAt, dwordAt, cellWord, channel, maskCell}
-use Rattle.format.specs.Refusals.{maskSource}
 use Rattle.leaves.proofs.ListLaws.{from-le16, from-le32}
 use Rattle.rows.proofs.MaskCells.{length-maskCell, cell32}
 use Rattle.format.proofs.Channels.{joined, fieldAt, channel-shown, word-lt}
@@ -68,8 +67,8 @@ samplesIn n bgr row x = redIn n bgr row x ∷ greenIn n row x ∷ blueIn n bgr r
 
 -- the word that is written has the fields of the four
 word-is : (d n : ℕ) (bgr : Bool) (masks row : List ℕ) (x : ℕ)
-    → maskWord (layoutOf d masks) n bgr row x ≡ joined (fieldAt masks (samplesIn n bgr row x)) 4
-unfolding layoutOf maskWord joined
+    → maskWord (channelsOf d masks) n bgr row x ≡ joined (fieldAt masks (samplesIn n bgr row x)) 4
+unfolding channelsOf maskWord joined
 word-is d n bgr masks row x = refl
 
 -- an alpha sample is a byte, missing or not
@@ -129,21 +128,21 @@ shown-is file masks samples v r g b a h = go (eqb (getD masks 3 0) 0) refl
 cell-shown : (d n : ℕ) (bgr : Bool) (masks file row rest : List ℕ) (w x : ℕ) → MasksAccepted d masks → dwordAt file 54 ≡ getD masks 0 0
     → dwordAt file 58 ≡ getD masks 1 0 → dwordAt file 62 ≡ getD masks 2 0 → (hasAlphaMask masks ≡ true → dwordAt file 66 ≡ getD masks 3 0)
     → ((k : ℕ) → getD row k 0 < 256) → x < w
-    → maskCell file (maskCompression masks) (cellWord d (storedRow (Masks n bgr (layoutOf d masks)) w row ++ rest) x)
+    → maskCell file (maskCompression masks) (cellWord d (storedRow (Masks n bgr (channelsOf d masks)) w row ++ rest) x)
     ≡ fitted masks (redIn n bgr row x) (greenIn n row x) (blueIn n bgr row x) (alphaIn n row x)
-unfolding layoutOf
+unfolding channelsOf
 cell-shown d n bgr masks file row rest w x ok r g b a bytes l =
     let all = sample-lt n bgr row x bytes in
     let is = word-is d n bgr masks row x in
-    let small : maskWord (layoutOf d masks) n bgr row x < 2 ^ d = rw is (word-lt d masks (samplesIn n bgr row x) ok all) in
-    ap (maskCell file (maskCompression masks)) (word-read (layoutOf d masks) n bgr row rest w x (ok .depths) small l ∙ is)
+    let small : maskWord (channelsOf d masks) n bgr row x < 2 ^ d = rw is (word-lt d masks (samplesIn n bgr row x) ok all) in
+    ap (maskCell file (maskCompression masks)) (word-read (channelsOf d masks) n bgr row rest w x (ok .depths) small l ∙ is)
     ∙ shown-is file masks (samplesIn n bgr row x) (joined (fieldAt masks (samplesIn n bgr row x)) 4) r g b a (channel-shown d masks (samplesIn n bgr row x) ok all)
 
 -- a masked cell shows the samples handed in, each fitted to its mask
 pub masked-cell : (f : BmpPixelFormat) (d : ℕ) (masks file row rest : List ℕ) (w x : ℕ) → maskSource f ≡ false → MasksAccepted d masks
     → dwordAt file 54 ≡ getD masks 0 0 → dwordAt file 58 ≡ getD masks 1 0 → dwordAt file 62 ≡ getD masks 2 0
     → (hasAlphaMask masks ≡ true → dwordAt file 66 ≡ getD masks 3 0) → ((k : ℕ) → getD row k 0 < 256) → x < w
-    → maskCell file (maskCompression masks) (cellWord d (storedRow (Masks (bytesPerPixel f) (blueFirst f) (layoutOf d masks)) w row ++ rest) x)
+    → maskCell file (maskCompression masks) (cellWord d (storedRow (Masks (bytesPerPixel f) (blueFirst f) (channelsOf d masks)) w row ++ rest) x)
     ≡ fittedShown f masks (λ k. getD row (x * pixelBytes f + k) 0)
 unfolding fittedShown
 masked-cell Rgba d masks file row rest w x _ ok r g b a bytes l = cell-shown d 4 false masks file row rest w x ok r g b a bytes l

@@ -6,52 +6,42 @@ use Prim.Native.Nat.{ℕ, _<_}
 use borrow.Author.Tests.{ltb-true}
 use lib.Dec.{ltb}
 use lib.ListN.{length}
+use Rattle.leaves.specs.declared.encoder.EncodeSource.{EncodeSource}
+use Rattle.leaves.specs.declared.options.EncodeOptions.{EncodeOptions}
 use Rattle.leaves.specs.declared.image.BmpPixelFormat.{BmpPixelFormat}
 use Rattle.leaves.specs.declared.image.BmpPixelFormat.the-variants.{Rgba, Rgb24, Bgra, Bgr24, Rgb555, Rgb565, Pal8, Indexed4, Indexed2, Indexed1}
 use Rattle.leaves.specs.Refusals.{profileMode}
-use Rattle.format.specs.File.{Mode, masked, calibrated, profiled, plain, modeOf, tailOf, coded, isPlain, rlePlanned, streamOf, budget, streamUsed}
+use Rattle.format.specs.File.{modeIn, rlePlanned, tailOf, streamOf, budget, streamUsed}
+use Rattle.format.specs.Layout.{modeOf, isMasked, isPlain, tailIn, coded, wantsRle}
+use Rattle.format.specs.declared.layout.Mode.{Mode}
+use Rattle.format.specs.declared.layout.Mode.the-variants.{Masked, Calibrated, Profiled, Plain}
 use Rattle.format.specs.Input.{Input}
 
 -- ---- masks
 
--- whether the mode is mask mode
-abbrev pub isMasked : Mode → Bool
-isMasked masked = true
-isMasked calibrated = false
-isMasked profiled = false
-isMasked plain = false
-
 -- masks are given exactly in mask mode
-pub given-mode : (i : Input) → i .options .«has_bitfields» ≡ isMasked (modeOf i)
+pub given-mode : (s : EncodeSource) (o : EncodeOptions) → o .«has_bitfields» ≡ isMasked (modeOf s o)
 unfolding modeOf
-given-mode i =
-    go (i .options .«has_bitfields») (i .options .«has_calibrated_rgb») (profileMode (i .source .«has_linked_icc») (i .source .«has_icc») (i .options .«embed_icc»))
+given-mode s o = go (o .«has_bitfields») (o .«has_calibrated_rgb») (profileMode (s .«has_linked_icc») (s .«has_icc») (o .«embed_icc»))
   where
-    go : (a b c : Bool) → a ≡ isMasked (cond a masked (cond b calibrated (cond c profiled plain)))
+    go : (a b c : Bool) → a ≡ isMasked (cond a Masked (cond b Calibrated (cond c Profiled Plain)))
     go true b c = refl
     go false true c = refl
     go false false true = refl
     go false false false = refl
 
--- mask mode has masks
-pub masks-given : (i : Input) → modeOf i ≡ masked → i .options .«has_bitfields» ≡ true
-masks-given i e = given-mode i ∙ ap isMasked e
-
--- the other modes have none
-pub masks-absent : (i : Input) (m : Mode) → modeOf i ≡ m → isMasked m ≡ false → i .options .«has_bitfields» ≡ false
-masks-absent i m e other = given-mode i ∙ ap isMasked e ∙ other
-
--- the other modes are not mask mode
-pub not-masked : (m : Mode) → isMasked m ≡ false → m ≡ masked → ⊥
-not-masked m other e = false≢true (sym other ∙ ap isMasked e)
+-- so that is the mode with masks
+pub mask-mode : (i : Input) → i .options .«has_bitfields» ≡ true → modeIn i ≡ Masked
+unfolding modeOf
+mask-mode i e = rw e
 
 -- ---- streams
 
-plain-mode : (m : Mode) → isPlain m ≡ true → m ≡ plain
-plain-mode masked e = absurd (false≢true e)
-plain-mode calibrated e = absurd (false≢true e)
-plain-mode profiled e = absurd (false≢true e)
-plain-mode plain e = refl
+plain-mode : (m : Mode) → isPlain m ≡ true → m ≡ Plain
+plain-mode Masked e = absurd (false≢true e)
+plain-mode Calibrated e = absurd (false≢true e)
+plain-mode Profiled e = absurd (false≢true e)
+plain-mode Plain e = refl
 
 -- both sides of a conjunction
 pub both : (a b : Bool) → (a && b) ≡ true → (a ≡ true) × (b ≡ true)
@@ -73,16 +63,18 @@ coded-cases P a b Indexed1 e = absurd (false≢true e)
 
 -- where RLE is planned: in the plain mode only, of a coded source that is not top-down
 pub record PlannedIn (i : Input) : Type 0 where
-  pub mode : modeOf i ≡ plain
+  pub mode : modeIn i ≡ Plain
   pub source : coded (i .source .format) ≡ true
+  pub unmasked : i .options .«has_bitfields» ≡ false
   pub bottom-up : i .options .«top_down» ≡ false
 
 -- a planned stream says so
 pub planned-in : (i : Input) → rlePlanned i ≡ true → PlannedIn i
-unfolding rlePlanned
+unfolding wantsRle
 planned-in i e =
-    let all = parts (isPlain (modeOf i)) (coded (i .source .format)) (i .options .rle) (i .options .«top_down») e in
-    record { mode = plain-mode (modeOf i) (all .0); source = all .1 .0; bottom-up = all .1 .1 }
+    let all = parts (isPlain (modeIn i)) (coded (i .source .format)) (i .options .rle) (i .options .«top_down») e in
+    let mode = plain-mode (modeIn i) (all .0) in
+    record { mode = mode; source = all .1 .0; unmasked = given-mode (i .source) (i .options) ∙ ap isMasked mode; bottom-up = all .1 .1 }
   where
     parts : (a b c d : Bool) → (a && b && c && not d) ≡ true → (a ≡ true) × ((b ≡ true) × (d ≡ false))
     parts true true true false h = (refl, (refl, refl))
@@ -92,12 +84,12 @@ planned-in i e =
     parts false b c d h = absurd (false≢true h)
 
 -- a plain file has no profile
-pub tail-empty : (i : Input) → PlannedIn i → tailOf (modeOf i) i ≡ []
-unfolding tailOf
-tail-empty i p = ap (λ (m : Mode). tailOf m i) (p .mode)
+pub tail-empty : (i : Input) → PlannedIn i → tailOf i ≡ []
+unfolding tailIn
+tail-empty i p = ap (λ (m : Mode). tailIn m (i .source .«has_linked_icc») (i .icc) (i .linked)) (p .mode)
 
 -- it has no bytes
-pub no-tail : (i : Input) → PlannedIn i → length (tailOf (modeOf i) i) ≡ 0
+pub no-tail : (i : Input) → PlannedIn i → length (tailOf i) ≡ 0
 no-tail i p = ap length (tail-empty i p)
 
 -- where a stream is used: it is planned, and under the budget

@@ -1,5 +1,5 @@
 -- Which files each reader opens.
-use mathlib.Core.Path.{_≡_, refl, sym, ap}
+use mathlib.Core.Path.{_≡_, refl, sym, _∙_}
 use mathlib.Core.Logic.{_⊎_, inl, inr}
 use mathlib.Core.Bool.{Bool, true, false, false≢true, not, cond, _&&_}
 use mathlib.Core.List.{List}
@@ -9,17 +9,17 @@ use lib.Dec.{eqb}
 use lib.ListN.{length}
 use Rattle.leaves.specs.declared.image.BmpPixelFormat.{BmpPixelFormat}
 use Rattle.leaves.specs.declared.image.BmpPixelFormat.the-variants.{Rgba, Rgb24, Bgra, Bgr24, Rgb555, Rgb565, Pal8, Indexed4, Indexed2, Indexed1}
-use Rattle.leaves.specs.Formats.{bitsPerPixel}
-use Rattle.leaves.specs.Masks.{hasAlphaMask}
+use Rattle.format.specs.File.{depthIn, maxFile, streamUsed, compressionOf, fileOf}
+use Rattle.format.specs.Layout.{depthOf, plainCompression, rowsCompression, coded}
+use Rattle.leaves.specs.Formats.{bitsPerPixel, isRgb565, maskSource}
+use Rattle.format.proofs.Modes.{coded-cases, used-in}
+use Rattle.format.proofs.HeadFields.{fields-read}
+use Rattle.leaves.specs.Masks.{hasAlphaMask, maskCompression}
 use Rattle.format.specs.Input.{Input}
-use Rattle.format.specs.File.{Mode, masked, calibrated, profiled, plain, modeOf, depthIn, isRgb565, coded, streamUsed, maxFile, compressionOf, fileOf}
 use Rattle.format.specs.Accepted.{Accepted}
-use Rattle.format.specs.Refusals.{maskSource}
 use Rattle.format.specs.Readers.{Reader, older, newer, unknownDepth, unknownCompression, Reading, refuses, Fields, fieldsOf, knowsDepth, knowsCompression, pairs, headNeeds, body, readFields, read}
 use Rattle.format.specs.Demand.{twoBits, alphaMasked}
-use Rattle.format.proofs.HeadFields.{fields-read}
 use Rattle.format.proofs.HeadWhole.{head-long, first-there}
-use Rattle.format.proofs.Modes.{isMasked, given-mode, coded-cases, used-in}
 
 -- ---- any file
 
@@ -93,31 +93,31 @@ stream-opens =
     (record { newer-depth = refl; older-depth = refl; newer-compression = refl; older-compression = refl; paired = refl })
     (record { newer-depth = refl; older-depth = refl; newer-compression = refl; older-compression = refl; paired = refl })
 
--- a plain file has a stream only of a source that is coded
-plain-opens : (f : BmpPixelFormat) (used : Bool) → (used ≡ true → coded f ≡ true)
-    → Opens (twoBits f) false (cond used (cond (eqb (bitsPerPixel f) 8) 1 2) (cond (isRgb565 f) 3 0)) (bitsPerPixel f)
-plain-opens f true h = stream-opens f (h refl)
-plain-opens f false h = rows-open f
-
 -- ---- the file
 
 module _ (i : Input) (a : Accepted i) where
-  -- by the mode
-  mode-opens : (m : Mode) → i .options .«has_bitfields» ≡ isMasked m
-      → Opens (twoBits (i .source .format)) (isMasked m && hasAlphaMask (i .options .bitfields .masks)) (compressionOf maxFile m i) (depthIn m i)
-  unfolding compressionOf
-  mode-opens masked e =
-      masked-opens (twoBits (i .source .format)) (hasAlphaMask (i .options .bitfields .masks)) (i .options .bitfields .bpp)
-      (not-two (i .source .format) (a .samples e)) (a .masks e .depths)
-  mode-opens calibrated e = rows-open (i .source .format)
-  mode-opens profiled e = rows-open (i .source .format)
-  mode-opens plain e = plain-opens (i .source .format) (streamUsed maxFile i) (λ e. used-in maxFile i e .planned .source)
+  -- by whether a stream is used, and whether masks are given
+  opens : Opens (twoBits (i .source .format)) (alphaMasked i) (compressionOf maxFile i) (depthIn i)
+  unfolding compressionOf rowsCompression depthOf
+  opens = go (streamUsed maxFile i) (i .options .«has_bitfields») refl refl
+    where
+      f : BmpPixelFormat
+      f = i .source .format
+
+      masks : List ℕ
+      masks = i .options .bitfields .masks
+
+      go : (used given : Bool) → streamUsed maxFile i ≡ used → i .options .«has_bitfields» ≡ given
+          → Opens (twoBits f) (given && hasAlphaMask masks) (cond used (cond (eqb (bitsPerPixel f) 8) 1 2) (cond given (maskCompression masks) (plainCompression f)))
+          (cond given (i .options .bitfields .bpp) (bitsPerPixel f))
+      go true true u e = absurd (false≢true (sym (used-in maxFile i u .planned .unmasked) ∙ e))
+      go true false u e = stream-opens f (used-in maxFile i u .planned .source)
+      go false true u e = masked-opens (twoBits f) (hasAlphaMask masks) (i .options .bitfields .bpp) (not-two f (a .samples e)) (a .masks e .depths)
+      go false false u e = rows-open f
 
   -- the readers take the compression and depth that were written
   file-opens : Opens (twoBits (i .source .format)) (alphaMasked i) (fieldsOf (fileOf maxFile i) .compression) (fieldsOf (fileOf maxFile i) .depth)
-  file-opens =
-      let alpha : alphaMasked i ≡ (isMasked (modeOf i) && hasAlphaMask (i .options .bitfields .masks)) = ap (λ b. b && hasAlphaMask (i .options .bitfields .masks)) (given-mode i) in
-      rw (fields-read i a, alpha) (mode-opens (modeOf i) (given-mode i))
+  file-opens = rw (fields-read i a) opens
 
   needs-there : headNeeds (fieldsOf (fileOf maxFile i)) ≤ length (fileOf maxFile i)
   needs-there = head-long i a

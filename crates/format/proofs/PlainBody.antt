@@ -11,23 +11,23 @@ use lib.ListN.{length, getD, drop}
 use lib.Seq.{drop-drop}
 use Rattle.leaves.specs.declared.image.BmpPixelFormat.{BmpPixelFormat}
 use Rattle.leaves.specs.declared.image.BmpPixelFormat.the-variants.{Rgba, Rgb24, Bgra, Bgr24, Rgb555, Rgb565, Pal8, Indexed4, Indexed2, Indexed1}
-use Rattle.leaves.specs.Formats.{bytesPerPixel, bitsPerPixel}
+use Rattle.format.specs.File.{depthIn, packIn, rawBytes, headBytes, tailOf, streamOf, maxFile, streamUsed, storedRowsOf, pixels, compressionOf, fileSize, fileOf}
+use Rattle.format.specs.Layout.{depthOf, plainPack, maskPack, packOf, rawLen, plainCompression, rowsCompression}
+use Rattle.leaves.specs.Formats.{bytesPerPixel, bitsPerPixel, isRgb565}
+use Rattle.format.proofs.FileSizes.{pack-ok, length-rows}
+use Rattle.format.proofs.HeadFields.{pixels-at, length-file, fieldsIn, fields-read}
+use Rattle.format.proofs.HeadTable.{palette-read}
+use Rattle.format.proofs.HeadMasks.{ColourMasks, masks-read, alpha-read, rgb565-read}
 use Rattle.leaves.specs.Masks.{hasAlphaMask, maskCompression}
 use Rattle.leaves.specs.Sizes.{rowStride}
 use Rattle.rows.specs.StoredRows.{storedRow, storedRows, packBits, packBytes, rowOf, sourceRow}
 use Rattle.format.specs.Accepted.{Accepted}
 use Rattle.format.specs.Expectation.{pixelBytes, handed, plainlyShown, fittedShown, cellShown, paletteShown, expected}
-use Rattle.format.specs.File.{Mode, masked, calibrated, profiled, plain, modeOf, tailOf, depthIn, plainPack, packIn, isRgb565, headBytes, rawBytes, streamOf, streamUsed, maxFile, storedRowsOf, pixels, compressionOf, fileSize, fileOf}
 use Rattle.format.specs.Input.{Input}
 use Rattle.format.specs.Readers.{shows, fieldsOf, shownHeight, rowLength, cellWord, rgbCell, maskCell, plainCell, paletteOf, picture, pixelNeeds, body}
 use Rattle.format.specs.Shown.{Cell}
 use Rattle.rows.proofs.AllRows.{rowAt, length-rowAt}
-use Rattle.format.proofs.FileSizes.{pack-ok, length-rows}
-use Rattle.format.proofs.HeadFields.{pixels-at, length-file, fieldsIn, fields-read}
-use Rattle.format.proofs.HeadMasks.{ColourMasks, masks-read, alpha-read, rgb565-read}
-use Rattle.format.proofs.HeadTable.{palette-read}
 use Rattle.format.proofs.MaskedCells.{masked-cell}
-use Rattle.format.proofs.Modes.{masks-given, masks-absent}
 use Rattle.format.proofs.Pictures.{height-shown, row-back, row-stored, picture-shown}
 use Rattle.format.proofs.PlainCells.{length-row, plain-cell, rgb565-cell}
 use Rattle.format.proofs.SourceRows.{length-source, source-at, source-small, within, plainly-of, fitted-of, Begins, joined-at}
@@ -59,16 +59,13 @@ plain-bytes Indexed4 = refl
 plain-bytes Indexed2 = refl
 plain-bytes Indexed1 = refl
 
-pub pack-bytes : (m : Mode) (i : Input) → packBytes (packIn m i) ≡ bytesPerPixel (i .source .format)
-unfolding packIn
-pack-bytes masked i = refl
-pack-bytes calibrated i = plain-bytes (i .source .format)
-pack-bytes profiled i = plain-bytes (i .source .format)
-pack-bytes plain i = plain-bytes (i .source .format)
-
--- the compression of rows without masks of the caller's
-abbrev rowCode : BmpPixelFormat → ℕ
-rowCode f = cond (isRgb565 f) 3 0
+pub pack-bytes : (i : Input) → packBytes (packIn i) ≡ bytesPerPixel (i .source .format)
+unfolding packOf
+pack-bytes i = go (i .options .«has_bitfields»)
+  where
+    go : (b : Bool) → packBytes (cond b (maskPack (i .source .format) (i .options .bitfields .bpp) (i .options .bitfields .masks)) (plainPack (i .source .format))) ≡ bytesPerPixel (i .source .format)
+    go true = refl
+    go false = plain-bytes (i .source .format)
 
 -- the cell that a reader takes from a row
 abbrev cellIn : List ℕ → ℕ → ℕ → List ℕ → ℕ → Cell
@@ -77,7 +74,7 @@ cellIn file c d row x = cond (eqb c 0) (rgbCell d row x) (maskCell file c (cellW
 -- without masks, by the source
 plain-shown : (f : BmpPixelFormat) (file source rest : List ℕ) (w x : ℕ) → (f ≡ Rgb565 → ColourMasks file 0xF800 0x07E0 0x001F)
     → length source ≡ w * bytesPerPixel f → x < w
-    → cellIn file (rowCode f) (bitsPerPixel f) (storedRow (plainPack f) w source ++ rest) x ≡ plainlyShown f (λ k. getD source (x * pixelBytes f + k) 0)
+    → cellIn file (plainCompression f) (bitsPerPixel f) (storedRow (plainPack f) w source ++ rest) x ≡ plainlyShown f (λ k. getD source (x * pixelBytes f + k) 0)
 plain-shown Rgba file source rest w x m e l = plain-cell Rgba w source rest x refl e l
 plain-shown Rgb24 file source rest w x m e l = plain-cell Rgb24 w source rest x refl e l
 plain-shown Bgra file source rest w x m e l = plain-cell Bgra w source rest x refl e l
@@ -155,27 +152,27 @@ module _ (i : Input) (a : Accepted i) (no : streamUsed maxFile i ≡ false) wher
       ∙ ap (λ (z : ℕ). getD (i .plane) z 0) (omega arith)
 
   -- the rows stand where the head ends
-  rows-there : drop (headBytes i) file ≡ storedRowsOf i ++ tailOf (modeOf i) i
+  rows-there : drop (headBytes i) file ≡ storedRowsOf i ++ tailOf i
   unfolding pixels fileOf
   rows-there = pixels-at i ∙ rw no
 
   -- the stored row s
   row-there : (s : ℕ) → s < i .source .height
-      → Begins (drop (headBytes i + s * rowLength (i .source .width) (depthIn (modeOf i) i)) file)
-      (storedRow (packIn (modeOf i) i) (i .source .width) (sourceIn (rowOf (i .options .«top_down») (i .source .height) s)))
+      → Begins (drop (headBytes i + s * rowLength (i .source .width) (depthIn i)) file)
+      (storedRow (packIn i) (i .source .width) (sourceIn (rowOf (i .options .«top_down») (i .source .height) s)))
   unfolding storedRowsOf storedRows
   row-there s l =
-      let ok = pack-ok (modeOf i) i (λ e. a .masks (masks-given i e)) (λ e. a .samples (masks-given i e)) in
-      let n : rowLength (i .source .width) (depthIn (modeOf i) i) ≡ rowStride (i .source .width) (packBits (packIn (modeOf i) i))
-      = length-row (depthIn (modeOf i) i) (i .source .width) ∙ ap (rowStride (i .source .width)) (sym (ok .1)) in
-      rw (n, ← drop-drop (s * rowStride (i .source .width) (packBits (packIn (modeOf i) i))) (headBytes i) file, rows-there, ← pack-bytes (modeOf i) i)
-      (joined-at (rowAt (packIn (modeOf i) i) (i .source .width) (i .source .height) (i .options .«top_down») (i .plane) (i .source .stride))
-      (rowStride (i .source .width) (packBits (packIn (modeOf i) i))) (i .source .height) s (tailOf (modeOf i) i)
-      (length-rowAt (packIn (modeOf i) i) (ok .0) (i .source .width) (i .source .height) (i .options .«top_down») (i .plane) (i .source .stride)) l)
+      let ok = pack-ok i (a .masks) (a .samples) in
+      let n : rowLength (i .source .width) (depthIn i) ≡ rowStride (i .source .width) (packBits (packIn i))
+      = length-row (depthIn i) (i .source .width) ∙ ap (rowStride (i .source .width)) (sym (ok .1)) in
+      rw (n, ← drop-drop (s * rowStride (i .source .width) (packBits (packIn i))) (headBytes i) file, rows-there, ← pack-bytes i)
+      (joined-at (rowAt (packIn i) (i .source .width) (i .source .height) (i .options .«top_down») (i .plane) (i .source .stride))
+      (rowStride (i .source .width) (packBits (packIn i))) (i .source .height) s (tailOf i)
+      (length-rowAt (packIn i) (ok .0) (i .source .width) (i .source .height) (i .options .«top_down») (i .plane) (i .source .stride)) l)
 
   -- a cell of a row that begins with the stored row, by the mode
   cell-plain : (y x : ℕ) (rest : List ℕ) → i .options .«has_bitfields» ≡ false → y < i .source .height → x < i .source .width
-      → cellIn file (rowCode (i .source .format)) (bitsPerPixel (i .source .format)) (storedRow (plainPack (i .source .format)) (i .source .width) (sourceIn y) ++ rest) x
+      → cellIn file (plainCompression (i .source .format)) (bitsPerPixel (i .source .format)) (storedRow (plainPack (i .source .format)) (i .source .width) (sourceIn y) ++ rest) x
       ≡ cellShown i y x
   cell-plain y x rest off l m =
       plain-shown (i .source .format) file (sourceIn y) rest (i .source .width) x (rgb565-read i a)
@@ -183,29 +180,47 @@ module _ (i : Input) (a : Accepted i) (no : streamUsed maxFile i ≡ false) wher
       ∙ plainly-of (i .source .format) _ (handed i y x) (λ k o. handed-byte y x k m o)
       ∙ sym (shown-by i y x false off)
 
-  cell-mode : (m : Mode) → modeOf i ≡ m → (y x : ℕ) (rest : List ℕ) → y < i .source .height → x < i .source .width
-      → cellIn file (compressionOf maxFile m i) (depthIn m i) (storedRow (packIn m i) (i .source .width) (sourceIn y) ++ rest) x ≡ cellShown i y x
-  unfolding compressionOf packIn
-  cell-mode masked e y x rest l m =
-      let given : i .options .«has_bitfields» ≡ true = masks-given i e in
-      let read = masks-read i a e in
+  cell-masked : (y x : ℕ) (rest : List ℕ) → i .options .«has_bitfields» ≡ true → x < i .source .width
+      → cellIn file (maskCompression (i .options .bitfields .masks)) (i .options .bitfields .bpp)
+      (storedRow (maskPack (i .source .format) (i .options .bitfields .bpp) (i .options .bitfields .masks)) (i .source .width) (sourceIn y) ++ rest) x ≡ cellShown i y x
+  cell-masked y x rest given m =
+      let read = masks-read i a given in
       rw (masked-code (i .options .bitfields .masks))
       (masked-cell (i .source .format) (i .options .bitfields .bpp) (i .options .bitfields .masks) file (sourceIn y) rest (i .source .width) x (a .samples given) (a .masks given)
-      (read .red-mask) (read .green-mask) (read .blue-mask) (alpha-read i a e)
+      (read .red-mask) (read .green-mask) (read .blue-mask) (alpha-read i a given)
       (source-small (i .plane) (i .source .stride) (i .source .width * bytesPerPixel (i .source .format)) y (a .plane-bytes)) m
       ∙ fitted-of (i .source .format) (i .options .bitfields .masks) _ (handed i y x) (λ k o. handed-byte y x k m o)
       ∙ sym (shown-by i y x true given))
-  cell-mode calibrated e y x rest l m = cell-plain y x rest (masks-absent i calibrated e refl) l m
-  cell-mode profiled e y x rest l m = cell-plain y x rest (masks-absent i profiled e refl) l m
-  cell-mode plain e y x rest l m = rw no (cell-plain y x rest (masks-absent i plain e refl) l m)
+
+  cell-stored : (y x : ℕ) (rest : List ℕ) → y < i .source .height → x < i .source .width
+      → cellIn file (compressionOf maxFile i) (depthIn i) (storedRow (packIn i) (i .source .width) (sourceIn y) ++ rest) x ≡ cellShown i y x
+  unfolding compressionOf rowsCompression depthOf packOf
+  cell-stored y x rest l m = rw no (go (i .options .«has_bitfields») refl)
+    where
+      f : BmpPixelFormat
+      f = i .source .format
+
+      d : ℕ
+      d = i .options .bitfields .bpp
+
+      masks : List ℕ
+      masks = i .options .bitfields .masks
+
+      go : (b : Bool) → i .options .«has_bitfields» ≡ b
+          → cellIn file (cond b (maskCompression masks) (plainCompression f)) (cond b d (bitsPerPixel f))
+          (storedRow (cond b (maskPack f d masks) (plainPack f)) (i .source .width) (sourceIn y) ++ rest) x ≡ cellShown i y x
+      go true e = cell-masked y x rest e m
+      go false e = cell-plain y x rest e l m
 
   -- rows have no stream's compression
-  rows-code : (m : Mode) → (eqb (compressionOf maxFile m i) 1 || eqb (compressionOf maxFile m i) 2) ≡ false
-  unfolding compressionOf
-  rows-code masked = masked-rows (i .options .bitfields .masks)
-  rows-code calibrated = plain-rows (isRgb565 (i .source .format))
-  rows-code profiled = plain-rows (isRgb565 (i .source .format))
-  rows-code plain = rw no (plain-rows (isRgb565 (i .source .format)))
+  rows-code : (eqb (compressionOf maxFile i) 1 || eqb (compressionOf maxFile i) 2) ≡ false
+  unfolding compressionOf rowsCompression
+  rows-code = rw no (go (i .options .«has_bitfields»))
+    where
+      go : (b : Bool) → (eqb (cond b (maskCompression (i .options .bitfields .masks)) (plainCompression (i .source .format))) 1
+          || eqb (cond b (maskCompression (i .options .bitfields .masks)) (plainCompression (i .source .format))) 2) ≡ false
+      go true = masked-rows (i .options .bitfields .masks)
+      go false = plain-rows (isRgb565 (i .source .format))
 
   tall : shownHeight (fieldsIn i) ≡ i .source .height
   tall = height-shown (fieldsIn i) (i .options .«top_down») (i .source .height) (a .some-height) (a .tall) refl
@@ -216,25 +231,25 @@ module _ (i : Input) (a : Accepted i) (no : streamUsed maxFile i ≡ false) wher
   unfolding plainCell
   cell-shown y x l m =
       let from = row-there (cond (i .options .«top_down») y (i .source .height - 1 - y)) (row-stored (i .options .«top_down») (i .source .height) y l) in
-      ap (λ (row : List ℕ). cellIn file (compressionOf maxFile (modeOf i) i) (depthIn (modeOf i) i) row x) (from .is)
-      ∙ ap (λ (n : ℕ). cellIn file (compressionOf maxFile (modeOf i) i) (depthIn (modeOf i) i) (storedRow (packIn (modeOf i) i) (i .source .width) (sourceIn n) ++ from .rest) x)
+      ap (λ (row : List ℕ). cellIn file (compressionOf maxFile i) (depthIn i) row x) (from .is)
+      ∙ ap (λ (n : ℕ). cellIn file (compressionOf maxFile i) (depthIn i) (storedRow (packIn i) (i .source .width) (sourceIn n) ++ from .rest) x)
       (row-back (i .options .«top_down») (i .source .height) y l)
-      ∙ cell-mode (modeOf i) refl y x (from .rest) l m
+      ∙ cell-stored y x (from .rest) l m
 
   -- the file has all rows
-  file-long : headBytes i + rowStride (i .source .width) (depthIn (modeOf i) i) * i .source .height ≤ length file
-  unfolding fileSize pixels rawBytes
+  file-long : headBytes i + rowStride (i .source .width) (depthIn i) * i .source .height ≤ length file
+  unfolding fileSize pixels rawLen
   file-long =
       let rows : length (cond (streamUsed maxFile i) (streamOf i) (storedRowsOf i)) ≡ rawBytes i
       = ap (λ (b : Bool). length (cond b (streamOf i) (storedRowsOf i))) no
-      ∙ length-rows i (λ e. a .masks (masks-given i e)) (λ e. a .samples (masks-given i e)) in
+      ∙ length-rows i (a .masks) (a .samples) in
       omega (arith, length-file i, rows)
 
   -- the last row's cells are in the file
   rows-long : pixelNeeds (fieldsIn i) ≤ length file
   unfolding pixelNeeds
   rows-long =
-      let d : ℕ = depthIn (modeOf i) i in
+      let d : ℕ = depthIn i in
       let w : ℕ = i .source .width in
       rw (ap (λ (n : ℕ). cond (eqb n 0) 0 (headBytes i + (n - 1) * rowLength w d + (w * d + 7) / 8)) tall)
       (needs-le (headBytes i) (i .source .height) w d (length file) (omega (arith, file-long)))
@@ -247,6 +262,6 @@ module _ (i : Input) (a : Accepted i) (no : streamUsed maxFile i ≡ false) wher
   pub plain-body : body file (fieldsOf file) ≡ shows (expected i)
   unfolding body expected
   plain-body =
-      rw (fields-read i a, rows-code (modeOf i), le-ltb (length file) (pixelNeeds (fieldsIn i)) rows-long)
+      rw (fields-read i a, rows-code, le-ltb (length file) (pixelNeeds (fieldsIn i)) rows-long)
       (picture-shown file (fieldsIn i) (plainCell file (fieldsIn i)) (cellShown i) (i .options .«top_down») (i .source .width) (i .source .height) (paletteShown i)
       (a .some-height) (a .tall) refl refl colours cell-shown)

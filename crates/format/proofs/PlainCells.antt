@@ -14,13 +14,13 @@ use lib.Pow.{shl-shr}
 use Rattle.leaves.specs.declared.image.BmpPixelFormat.{BmpPixelFormat}
 use Rattle.leaves.specs.declared.image.BmpPixelFormat.the-variants.{Rgba, Rgb24, Bgra, Bgr24, Rgb555, Rgb565, Pal8, Indexed4, Indexed2, Indexed1}
 use Rattle.rows.specs.declared.pack.RowPack.the-variants.{Words16, Indexed}
-use Rattle.leaves.specs.Formats.{bitsPerPixel, bytesPerPixel}
+use Rattle.format.specs.Layout.{plainPack}
+use Rattle.leaves.specs.Formats.{bytesPerPixel, bitsPerPixel, isRgb565}
 use Rattle.leaves.specs.Lists.{cat}
 use Rattle.leaves.specs.Sizes.{rowStride, hasTable}
 use Rattle.rows.specs.Packing.{packed}
 use Rattle.rows.specs.StoredRows.{padded, cell24, cell32, storedRow}
 use Rattle.format.specs.Expectation.{pixelBytes, word565, plainlyShown}
-use Rattle.format.specs.File.{plainPack, isRgb565}
 use Rattle.format.specs.Readers.{wordAt, dwordAt, rowLength, cellWord, five, rgbCell, channel, maskCell}
 use Rattle.format.specs.Shown.{index, rgb}
 use Rattle.leaves.proofs.ListLaws.{length-tab}

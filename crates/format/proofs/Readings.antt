@@ -8,13 +8,13 @@ use Rattle.leaves.specs.Refusals.{firstOf}
 use Rattle.format.specs.Accepted.{Accepted}
 use Rattle.format.specs.Demand.{twoBits, alphaMasked, Demand3}
 use Rattle.format.specs.Expectation.{expected}
-use Rattle.format.specs.File.{streamUsed, maxFile, fileOf}
-use Rattle.format.specs.Input.{Input}
-use Rattle.format.specs.Readers.{unknownDepth, unknownCompression, Reading, shows, refuses, fieldsOf, body}
+use Rattle.format.specs.File.{maxFile, streamUsed, fileOf}
 use Rattle.format.specs.Refusals.{writeRows}
 use Rattle.format.proofs.Acceptance.{accepted}
-use Rattle.format.proofs.Opening.{newer-opens, older-opens}
 use Rattle.format.proofs.PlainBody.{plain-body}
+use Rattle.format.specs.Input.{Input}
+use Rattle.format.specs.Readers.{unknownDepth, unknownCompression, Reading, shows, refuses, fieldsOf, body}
+use Rattle.format.proofs.Opening.{newer-opens, older-opens}
 use Rattle.format.proofs.StreamBody.{stream-body}
 
 -- what is shown of an opened file, stream or rows

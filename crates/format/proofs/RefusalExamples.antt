@@ -13,7 +13,8 @@ use Rattle.leaves.specs.Sizes.{rowStride, paletteEntryCount, writtenPaletteEntr
 use Rattle.rows.specs.RleCodes.{cells, scan, bytes, codes, rowCodes}
 use Rattle.rows.specs.Stream.{streamRow, stream}
 use Rattle.format.specs.Input.{Input}
-use Rattle.format.specs.File.{modeOf, tailOf, entriesOf, headRest, headBytes, rawBytes, rlePlanned, streamOf, maxFile, budget, plainSize, boundOf}
+use Rattle.format.specs.File.{streamOf, maxFile, budget, plainSize, boundOf}
+use Rattle.format.specs.Layout.{modeOf, tailIn, depthOf, tableEntries, headRest, headLen, rawLen, wantsRle}
 use Rattle.format.specs.Refusals.{fileTooLarge, bufferTooShort, streamOverBudget, givenMasksRows, checkRows, planRows, writeRows}
 use Rattle.format.proofs.ExampleInputs.{oneRow, withMasks, call, sevensWith, sevens}
 
@@ -65,5 +66,5 @@ answers =
 
 -- each is answered so
 pub answers-hold : map (λ (e : Answer). firstNumber (writeRows (e .limit) (e .input) (e .room) (e .offset))) answers ≡ map (λ (e : Answer). e .number) answers
-unfolding writeRows planRows checkRows dimensionRows paletteRows modeRows givenMasksRows bitfieldsRows maskRows isOneRun count lowest onesIn trailingZeros sharesBit planeRows fileTooLarge bufferTooShort streamOverBudget rlePlanned modeOf tailOf streamOf stream streamRow rowCodes codes cells scan bytes budget rawBytes headBytes headRest entriesOf writtenPaletteEntries paletteEntryCount rowStride cat boundOf plainSize
+unfolding writeRows planRows checkRows dimensionRows paletteRows modeRows givenMasksRows bitfieldsRows maskRows isOneRun count lowest onesIn trailingZeros sharesBit planeRows fileTooLarge bufferTooShort streamOverBudget wantsRle modeOf tailIn streamOf stream streamRow rowCodes codes cells scan bytes budget rawLen depthOf headLen headRest tableEntries writtenPaletteEntries paletteEntryCount rowStride cat boundOf plainSize
 answers-hold = refl

@@ -2,13 +2,18 @@
 use mathlib.Core.Path.{_≡_, refl, sym, ap, _∙_}
 use mathlib.Core.Logic.{_⊎_, inl, inr}
 use mathlib.Core.Bool.{true, false, cond, _||_}
-use mathlib.Core.List.{List, [], _++_}
+use mathlib.Core.List.{List, _++_}
 use Prim.Native.Nat.{ℕ, zero, suc, _+_, _-_, _*_, _%_, _^_, _≤_, _<_}
 use native.Mathlib.Omega.{arith}
 use lib.Dec.{eqb}
 use lib.ListN.{length, getD, drop}
 use Rattle.leaves.specs.declared.image.BmpPixelFormat.{BmpPixelFormat}
-use Rattle.leaves.specs.Formats.{bitsPerPixel, bytesPerPixel}
+use Rattle.format.specs.File.{depthIn, headBytes, tailOf, streamOf, maxFile, streamUsed, pixels, compressionOf, fileOf}
+use Rattle.format.specs.Layout.{depthOf, coded}
+use Rattle.leaves.specs.Formats.{bytesPerPixel, bitsPerPixel}
+use Rattle.format.proofs.Modes.{coded-cases, used-in}
+use Rattle.format.proofs.HeadFields.{pixels-at, fields-read}
+use Rattle.format.proofs.HeadTable.{palette-read}
 use Rattle.leaves.specs.Lists.{tab, cat}
 use Rattle.format.specs.Decode.{filled, decode}
 use Rattle.rows.specs.RleCodes.{cells}
@@ -16,16 +21,12 @@ use Rattle.rows.specs.StoredRows.{rowOf, sourceRow}
 use Rattle.rows.specs.Stream.{stream}
 use Rattle.format.specs.Accepted.{Accepted}
 use Rattle.format.specs.Expectation.{pixelBytes, handed, plainlyShown, cellShown, paletteShown, expected}
-use Rattle.format.specs.File.{Mode, plain, modeOf, tailOf, depthIn, headBytes, coded, streamOf, maxFile, streamUsed, pixels, compressionOf, fileOf}
 use Rattle.format.specs.Input.{Input}
 use Rattle.format.specs.Readers.{Fields, fieldsOf, shownHeight, paletteOf, streamed, body, shows}
 use Rattle.format.specs.Shown.{Cell, index}
 use Rattle.leaves.proofs.ListLaws.{getD-cat}
 use Rattle.format.proofs.Decoding.{decode-stream}
 use Rattle.rows.proofs.Scans.{length-cells, cell-at}
-use Rattle.format.proofs.HeadFields.{pixels-at, fields-read}
-use Rattle.format.proofs.HeadTable.{palette-read}
-use Rattle.format.proofs.Modes.{masks-absent, coded-cases, used-in}
 use Rattle.format.proofs.Pictures.{height-shown, picture-shown}
 use Rattle.format.proofs.SourceRows.{length-source, source-at}
 
@@ -58,11 +59,11 @@ module _ (d w h : ℕ) (plane : List ℕ) (stride : ℕ) (inside : w * 1 ≤ str
 
 -- the stream is read as the cells of its rows
 stream-read : (d w h : ℕ) (plane : List ℕ) (stride : ℕ) (rest : List ℕ) → (d ≡ 4) ⊎ (d ≡ 8) → 0 < h → w * 1 ≤ stride → stride * h ≤ length plane
-    → decode d w (stream d w h plane stride ++ rest) w (h - 1) [] ≡ filled (allCells d w h plane stride)
+    → decode d w (stream d w h plane stride ++ rest) (h - 1) ≡ filled (allCells d w h plane stride) (length (stream d w h plane stride) - 2)
 stream-read d w zero plane stride rest deep some inside long = absurd (omega arith)
 stream-read d w (suc m) plane stride rest deep some inside long =
     let e : suc m - 1 ≡ m = omega arith in
-    ap (λ (n : ℕ). decode d w (stream d w (suc m) plane stride ++ rest) w n []) e
+    ap (decode d w (stream d w (suc m) plane stride ++ rest)) e
     ∙ decode-stream d deep w plane stride m (whole-row d w (suc m) plane stride inside long) rest
 
 -- a reader that finds the stream shows the indices of the plane
@@ -75,8 +76,8 @@ body-read : (file : List ℕ) (t : Fields) (d w h : ℕ) (colours : List Cell) (
 unfolding body streamed
 body-read file t d w h colours plane stride rest cell deep some tall inside long wide high bits palette kind at shown =
     let all : shownHeight t ≡ h = height-shown t false h some tall high in
-    let found : decode (t .depth) (t .width) (drop (t .offset) file) (t .width) (shownHeight t - 1) [] ≡ filled (allCells d w h plane stride)
-    = (λ z. decode (bits z) (wide z) (at z) (wide z) (all z - 1) []) ∙ stream-read d w h plane stride rest deep some inside long in
+    let found : decode (t .depth) (t .width) (drop (t .offset) file) (shownHeight t - 1) ≡ filled (allCells d w h plane stride) (length (stream d w h plane stride) - 2)
+    = (λ z. decode (bits z) (wide z) (at z) (all z - 1)) ∙ stream-read d w h plane stride rest deep some inside long in
     rw kind (ap (streamed file t) found)
     ∙ picture-shown file t (λ s x. index (getD (allCells d w h plane stride) (s * t .width + x) 0)) cell false w h colours some tall wide high palette
     (λ y x l k.
@@ -102,14 +103,19 @@ coded-source =
 -- ---- when a stream is used
 
 -- the compression says that there is a stream
-kind-read : (i : Input) → streamUsed maxFile i ≡ true → compressionOf maxFile plain i ≡ cond (eqb (bitsPerPixel (i .source .format)) 8) 1 2
+kind-read : (i : Input) → streamUsed maxFile i ≡ true → compressionOf maxFile i ≡ cond (eqb (bitsPerPixel (i .source .format)) 8) 1 2
 unfolding compressionOf
 kind-read i used = rw used
+
+-- and the depth is the source's
+plain-depth : (i : Input) → i .options .«has_bitfields» ≡ false → depthIn i ≡ bitsPerPixel (i .source .format)
+unfolding depthOf
+plain-depth i off = rw off
 
 -- the stream stands at the offset
 stream-at : (i : Input) → streamUsed maxFile i ≡ true
     → drop (headBytes i) (fileOf maxFile i)
-    ≡ stream (bitsPerPixel (i .source .format)) (i .source .width) (i .source .height) (i .plane) (i .source .stride) ++ tailOf (modeOf i) i
+    ≡ stream (bitsPerPixel (i .source .format)) (i .source .width) (i .source .height) (i .plane) (i .source .stride) ++ tailOf i
 unfolding pixels streamOf
 stream-at i used = pixels-at i ∙ rw used
 
@@ -130,11 +136,11 @@ stream-body i a used =
     let offset : fieldsOf (fileOf maxFile i) .offset ≡ headBytes i = ap (λ (t : Fields). t .offset) read in
     let wide : fieldsOf (fileOf maxFile i) .width ≡ i .source .width = ap (λ (t : Fields). t .width) read in
     let high : fieldsOf (fileOf maxFile i) .height ≡ i .source .height = ap (λ (t : Fields). t .height) read ∙ rw (parts .planned .bottom-up) in
-    let bits : fieldsOf (fileOf maxFile i) .depth ≡ bitsPerPixel (i .source .format) = ap (λ (t : Fields). t .depth) read ∙ ap (λ (m : Mode). depthIn m i) (parts .planned .mode) in
+    let bits : fieldsOf (fileOf maxFile i) .depth ≡ bitsPerPixel (i .source .format) = ap (λ (t : Fields). t .depth) read ∙ plain-depth i (parts .planned .unmasked) in
     let kind : fieldsOf (fileOf maxFile i) .compression ≡ cond (eqb (bitsPerPixel (i .source .format)) 8) 1 2
-    = ap (λ (t : Fields). t .compression) read ∙ ap (λ (m : Mode). compressionOf maxFile m i) (parts .planned .mode) ∙ kind-read i used in
+    = ap (λ (t : Fields). t .compression) read ∙ kind-read i used in
     let at : drop (fieldsOf (fileOf maxFile i) .offset) (fileOf maxFile i) ≡ _ = ap (λ (n : ℕ). drop n (fileOf maxFile i)) offset ∙ stream-at i used in
     body-read (fileOf maxFile i) (fieldsOf (fileOf maxFile i)) (bitsPerPixel (i .source .format)) (i .source .width) (i .source .height) (paletteShown i) (i .plane) (i .source .stride)
-    (tailOf (modeOf i) i) (cellShown i) (c .deep) (a .some-height) (a .tall) (rw (← c .one) (a .rows-inside)) (a .plane-long) wide high bits
+    (tailOf i) (cellShown i) (c .deep) (a .some-height) (a .tall) (rw (← c .one) (a .rows-inside)) (a .plane-long) wide high bits
     (palette-read i a) (rw kind (c .kind)) at
-    (index-shown i (masks-absent i plain (parts .planned .mode) refl) c)
+    (index-shown i (parts .planned .unmasked) c)

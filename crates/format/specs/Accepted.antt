@@ -6,11 +6,10 @@ use mathlib.Core.Bool.{true, false}
 use mathlib.Core.List.{List}
 use lib.Bits.{bitAnd}
 use lib.ListN.{length, getD}
-use Rattle.leaves.specs.Formats.{bytesPerPixel}
+use Rattle.format.specs.File.{maxFile, fileSize}
+use Rattle.leaves.specs.Formats.{bytesPerPixel, maskSource}
 use Rattle.leaves.specs.Masks.{isOneRun}
 use Rattle.format.specs.Input.{Input}
-use Rattle.format.specs.File.{modeOf, maxFile, fileSize}
-use Rattle.format.specs.Refusals.{maskSource}
 
 -- masks that the check accepts
 pub record MasksAccepted (depth : ℕ) (masks : List ℕ) : Type 0 where

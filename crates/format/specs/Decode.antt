@@ -2,19 +2,31 @@
 -- Written from those sentences, with its own arithmetic: nothing here comes from the coder.
 use mathlib.Core.Bool.{Bool, true, false, cond}
 use mathlib.Core.List.{List, [], _∷_, _++_}
-use Prim.Native.Nat.{ℕ, zero, suc, pred, _+_, _-_, _*_, _/_, _%_, _^_}
+use Prim.Native.Nat.{ℕ, zero, suc, _+_, _-_, _*_, _/_, _%_, _^_}
 use lib.Dec.{ltb, eqb}
-use lib.ListN.{length, getD}
+use lib.ListN.{length, getD, drop}
 use Rattle.leaves.specs.Lists.{tab}
 
 -- why a stream is refused: a needed byte past the end; a code that means nothing here; a step over the row's end
 pub data StreamCause : Type 0 where
   short badCode pastRowEnd : StreamCause
 
--- the cells that a stream fills, in stored order, or the cause
+-- the cells that are filled from a place on, in stored order, and how many bytes they take; or the cause
 pub data Decoded : Type 0 where
-  filled : List ℕ → Decoded
+  filled : List ℕ → ℕ → Decoded
   refused : StreamCause → Decoded
+
+-- what is read behind cells that take `taken` bytes
+abbrev pub behind : List ℕ → ℕ → Decoded → Decoded
+behind cells taken (filled more n) = filled (cells ++ more) (taken + n)
+behind cells taken (refused cause) = refused cause
+
+-- one reading after the other: the second is told the cells of the first and the bytes that they take
+abbrev pub andThen : Decoded → (List ℕ → ℕ → Decoded) → Decoded
+andThen (filled cells taken) next = behind cells taken (next cells taken)
+andThen (refused cause) next = refused cause
+
+-- ---- one code
 
 -- "cell x starts x × depth bits into its row", the high bits of a byte first
 unfoldable pub cellAt : ℕ → List ℕ → ℕ → ℕ
@@ -33,37 +45,52 @@ abbrev pub rowFull : ℕ → Bool
 rowFull zero = true
 rowFull (suc room) = false
 
--- "Nothing past the top row's last cell is read": no cell is left, and no row above
-abbrev pub allFilled : ℕ → ℕ → Bool
-allFilled zero zero = true
-allFilled zero (suc above) = false
-allFilled (suc room) above = false
-
-abbrev pub unlessFilled : ℕ → ℕ → List ℕ → Decoded → Decoded
-unlessFilled room above acc rest = cond (allFilled room above) (filled acc) rest
-
--- Two bytes are taken, after `skip` that belong to a block that was read. `room` cells of the row are left to fill, and `above` rows above it, of w cells
--- each; acc has the cells so far.
-unfoldable pub next : ℕ → ℕ → List ℕ → ℕ → ℕ → ℕ → List ℕ → Decoded
-next d w [] skip room above acc = refused short
-next d w (b ∷ []) skip room above acc = refused short
-next d w (b ∷ v ∷ bs) (suc skip) room above acc = next d w (v ∷ bs) skip room above acc
--- a count of 1 or more and a value
-next d w (suc n ∷ v ∷ bs) zero room above acc =
-    cond (ltb room (suc n)) (refused pastRowEnd)
-    (unlessFilled (room - suc n) above (acc ++ tab (pairCell d v) (suc n)) (next d w bs 0 (room - suc n) above (acc ++ tab (pairCell d v) (suc n))))
+-- "takes two bytes at a time": the code at the first byte, where `room` cells of the row are left to fill; its cells, and its bytes with the padding
+unfoldable pub readCode : ℕ → ℕ → List ℕ → Decoded
+-- "a needed byte past the end"
+readCode d room [] = refused short
+readCode d room (b ∷ []) = refused short
+-- "A count of 1 or more and a value .. fill that many cells"; "a step over the row's end, is refused"
+readCode d room (suc n ∷ v ∷ bs) = cond (ltb room (suc n)) (refused pastRowEnd) (filled (tab (pairCell d v) (suc n)) 2)
 -- "00 00, in a full row only, goes to column 0 of the row above"
-next d w (zero ∷ zero ∷ bs) zero room above acc =
-    cond (rowFull room) (unlessFilled w (pred above) acc (next d w bs 0 w (pred above) acc)) (refused badCode)
+readCode d room (zero ∷ zero ∷ bs) = cond (rowFull room) (filled [] 2) (refused badCode)
 -- "Anything else .. is refused"
-next d w (zero ∷ suc zero ∷ bs) zero room above acc = refused badCode
-next d w (zero ∷ suc (suc zero) ∷ bs) zero room above acc = refused badCode
+readCode d room (zero ∷ suc zero ∷ bs) = refused badCode
+readCode d room (zero ∷ suc (suc zero) ∷ bs) = refused badCode
 -- "after 0 and a number of 3 or more come that many packed indices"
-next d w (zero ∷ suc (suc (suc n)) ∷ bs) zero room above acc =
+readCode d room (zero ∷ suc (suc (suc n)) ∷ bs) =
     cond (ltb room (suc (suc (suc n)))) (refused pastRowEnd)
     (cond (ltb (length bs * 8) (suc (suc (suc n)) * d)) (refused short)
-    (unlessFilled (room - suc (suc (suc n))) above (acc ++ tab (cellAt d bs) (suc (suc (suc n))))
-    (next d w bs (dataRead d (suc (suc (suc n)))) (room - suc (suc (suc n))) above (acc ++ tab (cellAt d bs) (suc (suc (suc n)))))))
+    (filled (tab (cellAt d bs) (suc (suc (suc n)))) (suc (suc (dataRead d (suc (suc (suc n))))))))
 
-unfoldable pub decode : ℕ → ℕ → List ℕ → ℕ → ℕ → List ℕ → Decoded
-decode d w bs room above acc = unlessFilled room above acc (next d w bs 0 room above acc)
+-- ---- one row
+
+abbrev pub unlessFull : ℕ → Decoded → Decoded
+unlessFull room rest = cond (rowFull room) (filled [] 0) rest
+
+-- Codes until the `room` cells are filled that the row has left, after `skip` bytes of a code that was read. The last code's padding belongs to the row, but
+-- is not looked at: behind the top row it may be missing.
+unfoldable pub fillRow : ℕ → ℕ → List ℕ → ℕ → Decoded
+fillRow d room [] skip = refused short
+fillRow d room (b ∷ bs) zero =
+    andThen (readCode d room (b ∷ bs)) (λ cells taken. unlessFull (room - length cells) (fillRow d (room - length cells) bs (taken - 1)))
+fillRow d room (b ∷ bs) (suc skip) = fillRow d room bs skip
+
+-- the row of w cells whose codes begin at the first byte
+abbrev pub readRow : ℕ → ℕ → List ℕ → Decoded
+readRow d w bs = unlessFull w (fillRow d w bs 0)
+
+-- ---- a stream
+
+-- a row with another above it, and the code between them: in a full row only 00 00 is not refused
+unfoldable pub readRowEnd : ℕ → ℕ → List ℕ → Decoded
+readRowEnd d w bs = andThen (readRow d w bs) (λ cells taken. readCode d 0 (drop taken bs))
+
+-- "at column 0 of the bottom row": the s rows below row s, in stored order; row s begins where they end
+unfoldable pub rowsBelow : ℕ → ℕ → List ℕ → ℕ → Decoded
+rowsBelow d w bs zero = filled [] 0
+rowsBelow d w bs (suc s) = andThen (rowsBelow d w bs s) (λ cells place. readRowEnd d w (drop place bs))
+
+-- "Nothing past the top row's last cell is read": the rows below the top row, and that row without a code behind it
+unfoldable pub decode : ℕ → ℕ → List ℕ → ℕ → Decoded
+decode d w bs top = andThen (rowsBelow d w bs top) (λ cells place. readRow d w (drop place bs))

@@ -5,6 +5,7 @@ pub mod Expectation
 pub mod File
 pub mod Headers
 pub mod Input
+pub mod Layout
 pub mod Readers
 pub mod Refusals
 pub mod Shown

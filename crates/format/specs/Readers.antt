@@ -148,7 +148,7 @@ picture file t cell =
 
 -- a stream fills the rows in stored order, bottom first
 unfoldable pub streamed : List ℕ → Fields → Decoded → Reading
-streamed file t (filled cells) = picture file t (λ s x. index (getD cells (s * t .width + x) 0))
+streamed file t (filled cells taken) = picture file t (λ s x. index (getD cells (s * t .width + x) 0))
 streamed file t (refused cause) = refuses (badStream cause)
 
 -- the bytes of fields, masks and table that are needed
@@ -162,7 +162,7 @@ pixelNeeds t = cond (eqb (shownHeight t) 0) 0 (t .offset + (shownHeight t - 1) *
 unfoldable pub body : List ℕ → Fields → Reading
 body file t =
     cond (eqb (t .compression) 1 || eqb (t .compression) 2)
-    (streamed file t (decode (t .depth) (t .width) (drop (t .offset) file) (t .width) (shownHeight t - 1) []))
+    (streamed file t (decode (t .depth) (t .width) (drop (t .offset) file) (shownHeight t - 1)))
     (cond (ltb (length file) (pixelNeeds t)) (refuses short) (picture file t (plainCell file t)))
 
 unfoldable pub readFields : Reader → List ℕ → Fields → Reading

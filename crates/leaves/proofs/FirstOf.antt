@@ -11,7 +11,7 @@ use Rattle.leaves.specs.declared.error.Refusal.the-variants.{ZeroDimensi
 use Rattle.leaves.specs.declared.error.Check.{Check}
 use Rattle.leaves.specs.declared.error.Check.the-variants.{Passed, Refused}
 use Rattle.leaves.specs.Lists.{cat}
-use Rattle.leaves.specs.Refusals.{checkNumber, firstOf}
+use Rattle.leaves.specs.Refusals.{checkNumber, firstOf, orElse}
 
 -- ---- the number determines the check
 
@@ -63,23 +63,26 @@ check-determined a b e = sym (by-number a) ∙ ap byNumber e ∙ by-number b
 
 -- ---- rows in a row
 
+-- one group of rows after the other is one check after the other
+pub first-or : (xs ys : List (Bool × Refusal)) → firstOf (xs ++ ys) ≡ orElse (firstOf xs) (firstOf ys)
+first-or [] ys = refl
+first-or (x ∷ xs) ys = go (x .0) (first-or xs ys)
+  where
+    go : (b : Bool) → firstOf (xs ++ ys) ≡ orElse (firstOf xs) (firstOf ys) → cond b (Refused (x .1)) (firstOf (xs ++ ys)) ≡ orElse (cond b (Refused (x .1)) (firstOf xs)) (firstOf ys)
+    go true rest = refl
+    go false rest = rest
+
+-- so checks in a row answer for rows in a row
+pub first-next : (xs ys : List (Bool × Refusal)) (a b r : Check) → a ≡ firstOf xs → b ≡ firstOf ys → r ≡ orElse a b → r ≡ firstOf (xs ++ ys)
+first-next xs ys a b r ea eb e = e ∙ (λ z. orElse (ea z) (eb z)) ∙ sym (first-or xs ys)
+
 -- rows of which none applies leave it to those after them
 pub first-pass : (xs ys : List (Bool × Refusal)) → firstOf xs ≡ Passed → firstOf (xs ++ ys) ≡ firstOf ys
-first-pass [] ys e = refl
-first-pass (x ∷ xs) ys e = go (x .0) refl (first-pass xs ys)
-  where
-    go : (b : Bool) → x .0 ≡ b → (firstOf xs ≡ Passed → firstOf (xs ++ ys) ≡ firstOf ys) → cond b (Refused (x .1)) (firstOf (xs ++ ys)) ≡ firstOf ys
-    go true q rest = let z : Refused (x .1) ≡ Passed = rw q at e in cc
-    go false q rest = rest (rw q at e)
+first-pass xs ys e = first-or xs ys ∙ ap (λ (c : Check). orElse c (firstOf ys)) e
 
 -- rows of which one applies decide
 pub first-stop : (xs ys : List (Bool × Refusal)) (why : Refusal) → firstOf xs ≡ Refused why → firstOf (xs ++ ys) ≡ Refused why
-first-stop [] ys why e = let z : Passed ≡ Refused why = e in cc
-first-stop (x ∷ xs) ys why e = go (x .0) refl (first-stop xs ys why)
-  where
-    go : (b : Bool) → x .0 ≡ b → (firstOf xs ≡ Refused why → firstOf (xs ++ ys) ≡ Refused why) → cond b (Refused (x .1)) (firstOf (xs ++ ys)) ≡ Refused why
-    go true q rest = rw q at e
-    go false q rest = rest (rw q at e)
+first-stop xs ys why e = first-or xs ys ∙ ap (λ (c : Check). orElse c (firstOf ys)) e
 
 -- groups of rows, one for each place below n
 pub cat-stop : (f : ℕ → List (Bool × Refusal)) (n k : ℕ) (why : Refusal) → k < n → firstOf (cat f k) ≡ Passed → firstOf (f k) ≡ Refused why → firstOf (cat f n) ≡ Refused why

@@ -16,6 +16,13 @@ applies n t why rest e h = rw e h
 pub passes : (n : ℕ) (t : Bool) (why : Refusal) (rest : Check) → t ≡ false → n ≡ checkNumber rest → n ≡ checkNumber (cond t (Refused why) rest)
 passes n t why rest e h = rw e h
 
+-- the same of checks
+pub decides : (t : Bool) (why : Refusal) (rest : Check) → t ≡ true → Refused why ≡ cond t (Refused why) rest
+decides t why rest e = rw e
+
+pub leaves-it : (c : Check) (t : Bool) (why : Refusal) (rest : Check) → t ≡ false → c ≡ rest → c ≡ cond t (Refused why) rest
+leaves-it c t why rest e h = rw e h
+
 -- a test of several parts
 pub or-first : (a b : Bool) → a ≡ true → (a || b) ≡ true
 or-first a b e = rw e
@@ -43,4 +50,4 @@ not-of-false a e = rw e
 pub not-of-true : (a : Bool) → a ≡ true → not a ≡ false
 not-of-true a e = rw e
 
-pub ruleset tests = (needs, eq-eqb, ne-eqb, lt-ltb, le-ltb, le-leb, lt-leb, not-true, not-false, applies, passes, or-first, or-second, or-neither, and-both, and-first, and-second, not-of-false, not-of-true)
+pub ruleset tests = (needs, eq-eqb, ne-eqb, lt-ltb, le-ltb, le-leb, lt-leb, not-true, not-false, applies, passes, decides, leaves-it, or-first, or-second, or-neither, and-both, and-first, and-second, not-of-false, not-of-true)

@@ -32,19 +32,6 @@ bitsPerPixel source.Indexed4 = 4
 bitsPerPixel source.Indexed2 = 2
 bitsPerPixel source.Indexed1 = 1
 
--- the layouts with an alpha sample
-abbrev pub hasAlpha : BmpPixelFormat → Bool
-hasAlpha source.Rgba = true
-hasAlpha source.Rgb24 = false
-hasAlpha source.Bgra = true
-hasAlpha source.Bgr24 = false
-hasAlpha source.Rgb555 = false
-hasAlpha source.Rgb565 = false
-hasAlpha source.Pal8 = false
-hasAlpha source.Indexed4 = false
-hasAlpha source.Indexed2 = false
-hasAlpha source.Indexed1 = false
-
 -- the indexed formats
 abbrev pub isIndexed : BmpPixelFormat → Bool
 isIndexed source.Rgba = false
@@ -57,6 +44,45 @@ isIndexed source.Pal8 = true
 isIndexed source.Indexed4 = true
 isIndexed source.Indexed2 = true
 isIndexed source.Indexed1 = true
+
+-- the layouts that come blue first (document 01, Cells: "Bgra and Bgr24 sources come in that order")
+abbrev pub blueFirst : BmpPixelFormat → Bool
+blueFirst source.Rgba = false
+blueFirst source.Rgb24 = false
+blueFirst source.Bgra = true
+blueFirst source.Bgr24 = true
+blueFirst source.Rgb555 = false
+blueFirst source.Rgb565 = false
+blueFirst source.Pal8 = false
+blueFirst source.Indexed4 = false
+blueFirst source.Indexed2 = false
+blueFirst source.Indexed1 = false
+
+-- the one plain layout with a 108-byte header
+abbrev pub isRgb565 : BmpPixelFormat → Bool
+isRgb565 source.Rgba = false
+isRgb565 source.Rgb24 = false
+isRgb565 source.Bgra = false
+isRgb565 source.Bgr24 = false
+isRgb565 source.Rgb555 = false
+isRgb565 source.Rgb565 = true
+isRgb565 source.Pal8 = false
+isRgb565 source.Indexed4 = false
+isRgb565 source.Indexed2 = false
+isRgb565 source.Indexed1 = false
+
+-- the layouts that masks are not for (11: "source is not Rgba, Rgb24, Bgra or Bgr24")
+abbrev pub maskSource : BmpPixelFormat → Bool
+maskSource source.Rgba = false
+maskSource source.Rgb24 = false
+maskSource source.Bgra = false
+maskSource source.Bgr24 = false
+maskSource source.Rgb555 = true
+maskSource source.Rgb565 = true
+maskSource source.Pal8 = true
+maskSource source.Indexed4 = true
+maskSource source.Indexed2 = true
+maskSource source.Indexed1 = true
 
 -- the format answered where neither masks nor a stream are used (document 01, The plan: "The format answered is `plain_token`'s ..")
 abbrev pub plainToken : BmpPixelFormat → EncodedBmpFormat

@@ -38,6 +38,11 @@ abbrev pub firstOf : List (Bool × Refusal) → Check
 firstOf [] = Passed
 firstOf (row ∷ rows) = cond (row .0) (Refused (row .1)) (firstOf rows)
 
+-- of two checks in a row, the first that refuses decides
+abbrev pub orElse : Check → Check → Check
+orElse Passed next = next
+orElse (Refused why) next = Refused why
+
 -- the number of the first row that applies, or 0
 abbrev pub firstNumber : List (Bool × Refusal) → ℕ
 firstNumber rows = checkNumber (firstOf rows)

@@ -2,7 +2,7 @@
 ghost use mathlib.Core.Path.{_≡_};
 ghost use Prim.Native.Nat.{_*_};
 ghost use lib.Dec.{ltb};
-ghost use Rattle.leaves.specs.Refusals.{checkNumber, firstNumber, profileMode, dimensionRows, paletteRows, modeRows, planeRows};
+ghost use Rattle.leaves.specs.Refusals.{firstOf, profileMode, dimensionRows, paletteRows, modeRows, planeRows};
 use crate::error::Check;
 use crate::error::Refusal;
 
@@ -11,7 +11,7 @@ const MAX_DIMENSION: u32 = 0x7FFF_FFFF;
 
 // 1 and 2.
 pub fn check_dimensions(width: u32, height: u32) -> Check
-    ensures { λ r. ⌜ checkNumber r ≡ firstNumber (dimensionRows width height) ⌝ }
+    ensures { λ r. ⌜ r ≡ firstOf (dimensionRows width height) ⌝ }
 {
     if width == 0 || height == 0 {
         return Check::Refused(Refusal::ZeroDimension);
@@ -24,7 +24,7 @@ pub fn check_dimensions(width: u32, height: u32) -> Check
 
 // 3 and 4: a palette is looked at for indexed formats only.
 pub fn check_palette(indexed: bool, given: bool, bytes: usize) -> Check
-    ensures { λ r. ⌜ checkNumber r ≡ firstNumber (paletteRows indexed given bytes) ⌝ }
+    ensures { λ r. ⌜ r ≡ firstOf (paletteRows indexed given bytes) ⌝ }
 {
     if !indexed {
         return Check::Passed;
@@ -50,7 +50,7 @@ pub fn profile_mode(has_linked_icc: bool, has_icc: bool, embed_icc: bool) -> boo
 
 // 5.
 pub fn check_modes(bitfields: bool, calibrated_rgb: bool, profile: bool) -> Check
-    ensures { λ r. ⌜ checkNumber r ≡ firstNumber (modeRows bitfields «calibrated_rgb» profile) ⌝ }
+    ensures { λ r. ⌜ r ≡ firstOf (modeRows bitfields «calibrated_rgb» profile) ⌝ }
 {
     let requested = bitfields as u8 + calibrated_rgb as u8 + profile as u8;
     if requested > 1 {
@@ -77,7 +77,7 @@ pub fn check_plane(
     source_bytes: usize,
     bytes: usize,
 ) -> Check
-    ensures { λ r. ⌜ checkNumber r ≡ firstNumber (planeRows width height stride «source_bytes» bytes) ⌝ }
+    ensures { λ r. ⌜ r ≡ firstOf (planeRows width height stride «source_bytes» bytes) ⌝ }
 {
     if below_product(bytes, stride, height as usize) {
         return Check::Refused(Refusal::PlaneTooShort);

@@ -1,6 +1,6 @@
 // Why a call is refused (the Rust's error.rs; its messages are numbers here).
 ghost use mathlib.Core.Path.{_≡_};
-ghost use Rattle.leaves.specs.Refusals.{numberOf, checkNumber};
+ghost use Rattle.leaves.specs.Refusals.{numberOf, checkNumber, orElse};
 
 // The rows of document 01's table, in their order.
 pub enum Refusal {
@@ -62,6 +62,16 @@ impl Check {
         match self {
             Check::Passed => 0,
             Check::Refused(why) => why.number(),
+        }
+    }
+
+    // This check's refusal, or else what the next one says.
+    pub fn or(self, next: Check) -> Check
+        ensures { λ r. ⌜ r ≡ orElse self next ⌝ }
+    {
+        match self {
+            Check::Passed => next,
+            Check::Refused(why) => Check::Refused(why),
         }
     }
 }

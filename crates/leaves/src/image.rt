@@ -1,6 +1,7 @@
 // The layouts of a lent plane (the Rust's image.rs).
 ghost use mathlib.Core.Path.{_≡_};
-ghost use Rattle.leaves.specs.Formats.{bytesPerPixel, bitsPerPixel, isIndexed, hasAlpha};
+ghost use mathlib.Core.Bool.{not};
+ghost use Rattle.leaves.specs.Formats.{bytesPerPixel, bitsPerPixel, isIndexed, blueFirst, isRgb565, maskSource};
 
 pub enum BmpPixelFormat {
     // 8-bit red, green, blue, alpha.
@@ -59,23 +60,6 @@ impl BmpPixelFormat {
         }
     }
 
-    pub fn has_alpha(self) -> bool
-        ensures { λ r. ⌜ r ≡ hasAlpha self ⌝ }
-    {
-        match self {
-            BmpPixelFormat::Rgba => true,
-            BmpPixelFormat::Rgb24 => false,
-            BmpPixelFormat::Bgra => true,
-            BmpPixelFormat::Bgr24 => false,
-            BmpPixelFormat::Rgb555 => false,
-            BmpPixelFormat::Rgb565 => false,
-            BmpPixelFormat::Pal8 => false,
-            BmpPixelFormat::Indexed4 => false,
-            BmpPixelFormat::Indexed2 => false,
-            BmpPixelFormat::Indexed1 => false,
-        }
-    }
-
     // Whether the file has a colour table.
     pub fn is_indexed(self) -> bool
         ensures { λ r. ⌜ r ≡ isIndexed self ⌝ }
@@ -91,6 +75,60 @@ impl BmpPixelFormat {
             BmpPixelFormat::Indexed4 => true,
             BmpPixelFormat::Indexed2 => true,
             BmpPixelFormat::Indexed1 => true,
+        }
+    }
+
+    // Whether blue comes first.
+    pub fn is_blue_first(self) -> bool
+        ensures { λ r. ⌜ r ≡ blueFirst self ⌝ }
+    {
+        match self {
+            BmpPixelFormat::Rgba => false,
+            BmpPixelFormat::Rgb24 => false,
+            BmpPixelFormat::Bgra => true,
+            BmpPixelFormat::Bgr24 => true,
+            BmpPixelFormat::Rgb555 => false,
+            BmpPixelFormat::Rgb565 => false,
+            BmpPixelFormat::Pal8 => false,
+            BmpPixelFormat::Indexed4 => false,
+            BmpPixelFormat::Indexed2 => false,
+            BmpPixelFormat::Indexed1 => false,
+        }
+    }
+
+    // The one plain source with a 108-byte header.
+    pub fn is_rgb565(self) -> bool
+        ensures { λ r. ⌜ r ≡ isRgb565 self ⌝ }
+    {
+        match self {
+            BmpPixelFormat::Rgba => false,
+            BmpPixelFormat::Rgb24 => false,
+            BmpPixelFormat::Bgra => false,
+            BmpPixelFormat::Bgr24 => false,
+            BmpPixelFormat::Rgb555 => false,
+            BmpPixelFormat::Rgb565 => true,
+            BmpPixelFormat::Pal8 => false,
+            BmpPixelFormat::Indexed4 => false,
+            BmpPixelFormat::Indexed2 => false,
+            BmpPixelFormat::Indexed1 => false,
+        }
+    }
+
+    // Whether masks can be given: samples of 8 bits.
+    pub fn takes_masks(self) -> bool
+        ensures { λ r. ⌜ r ≡ not (maskSource self) ⌝ }
+    {
+        match self {
+            BmpPixelFormat::Rgba => true,
+            BmpPixelFormat::Rgb24 => true,
+            BmpPixelFormat::Bgra => true,
+            BmpPixelFormat::Bgr24 => true,
+            BmpPixelFormat::Rgb555 => false,
+            BmpPixelFormat::Rgb565 => false,
+            BmpPixelFormat::Pal8 => false,
+            BmpPixelFormat::Indexed4 => false,
+            BmpPixelFormat::Indexed2 => false,
+            BmpPixelFormat::Indexed1 => false,
         }
     }
 }

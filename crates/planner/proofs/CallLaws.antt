@@ -1,7 +1,7 @@
 -- From the table's outcome to the promise of the writing call; and the promise determines answer and buffer.
 use mathlib.Core.Path.{_≡_, refl, sym, ap, subst, _∙_}
-use mathlib.Core.Bool.{Bool, true, false, false≢true, cond, _||_}
-use mathlib.Core.List.{List, [], _∷_}
+use mathlib.Core.Bool.{Bool, true, false, false≢true, not, cond, _&&_, _||_}
+use mathlib.Core.List.{List, [], _∷_, _++_}
 use Prim.Native.Nat.{ℕ, _+_, _-_, _≤_}
 use native.Mathlib.Omega.{arith}
 use borrow.Author.Tests.{ltb-false}
@@ -10,13 +10,18 @@ use lib.ListN.{length, take, drop}
 use Rattle.leaves.specs.declared.error.Check.{Check}
 use Rattle.leaves.specs.declared.error.Check.the-variants.{Passed, Refused}
 use Rattle.leaves.specs.declared.error.Refusal.{Refusal}
-use Rattle.leaves.specs.declared.error.Refusal.the-variants.{BufferTooShort, StreamOverBudget}
+use Rattle.leaves.specs.declared.error.Refusal.the-variants.{FileTooLarge, BufferTooShort, StreamOverBudget}
 use Rattle.leaves.specs.Put.{put}
 use Rattle.leaves.specs.Refusals.{checkNumber, firstOf}
 use Rattle.format.specs.Demand.{Demand3}
-use Rattle.format.specs.File.{maxFile, boundOf, fileOf, fileSize}
+use Rattle.leaves.specs.Sizes.{clrUsed}
+use Rattle.format.specs.declared.layout.Layout.{Layout}
+use Rattle.format.specs.declared.layout.Mode.{Mode}
+use Rattle.format.specs.File.{modeIn, depthIn, rlePlanned, rawBytes, entriesOf, headBytes, tailOf, streamOf, maxFile, budget, streamUsed, storedRowsOf, pixels, colourTable, storedHeight, compressionOf, imageSize, pelsPerMeter, headOf, fileSize, fileOf, plainSize, boundOf, formatOf}
+use Rattle.format.specs.Headers.{fileHeader, infoHeader}
+use Rattle.format.specs.Layout.{isProfiled, tailIn, headerSize, headRest}
 use Rattle.format.specs.Input.{Input}
-use Rattle.format.specs.Refusals.{bufferTooShort, streamOverBudget, planRows, writeRows}
+use Rattle.format.specs.Refusals.{fileTooLarge, bufferTooShort, streamOverBudget, callRows, planRows, writeRows}
 use Rattle.leaves.proofs.FirstOf.{check-determined, first-pass, first-stop}
 use Rattle.leaves.proofs.Puts.{inside-put}
 use Rattle.format.proofs.HeadFields.{length-file}
@@ -24,7 +29,9 @@ use Rattle.format.proofs.Passing.{or-false}
 use Rattle.planner.specs.declared.encoder.Encoded.{Encoded}
 use Rattle.planner.specs.declared.encoder.Encoded.the-variants as encoded
 use Rattle.planner.specs.Answers.{encodedNumber, encodedBytes, encodedFormat, bytesFor, formatFor, laterFor, Written}
-use Rattle.planner.specs.Plans.{encodedFor, streamCheck}
+use Rattle.planner.specs.declared.plan.Sizes.{Sizes}
+use Rattle.planner.specs.Calls.{chosen}
+use Rattle.planner.specs.Plans.{sizesBy, Planned, encodedFor, streamCheck}
 
 -- ---- the outcome
 
@@ -48,16 +55,16 @@ short-stops i room offset bound r p b e t =
     after-plan i room offset p ∙ ap (λ (s : Bool). cond s (Refused BufferTooShort) (streamCheck i)) short
 
 -- 15 does not apply: 16 decides, and the buffer has room
-pub record Roomy (i : Input) (room offset bound : ℕ) : Type 0 where
+pub record RoomLeft (i : Input) (room offset bound : ℕ) : Type 0 where
   pub outcome : firstOf (writeRows maxFile i room offset) ≡ streamCheck i
   pub inside : offset ≤ room
-  pub room-left : offset + bound ≤ room
+  pub long : offset + bound ≤ room
 
 -- the test of the room says so
-pub roomy : (i : Input) (room offset bound : ℕ) (r : Bool) → firstOf (planRows maxFile i) ≡ Passed → bound ≡ boundOf maxFile i
-    → r ≡ (ltb room offset || ltb (room - offset) bound) → r ≡ false → Roomy i room offset bound
+pub room-left : (i : Input) (room offset bound : ℕ) (r : Bool) → firstOf (planRows maxFile i) ≡ Passed → bound ≡ boundOf maxFile i
+    → r ≡ (ltb room offset || ltb (room - offset) bound) → r ≡ false → RoomLeft i room offset bound
 unfolding bufferTooShort
-roomy i room offset bound r p b e t =
+room-left i room offset bound r p b e t =
     let long : (ltb room offset || ltb (room - offset) (boundOf maxFile i)) ≡ false = ap (λ (n : ℕ). ltb room offset || ltb (room - offset) n) (sym b) ∙ sym e ∙ t in
     let both = or-false (ltb room offset) (ltb (room - offset) (boundOf maxFile i)) long in
     let before = ltb-false room offset (both .0) in
@@ -65,8 +72,72 @@ roomy i room offset bound r p b e t =
     record {
       outcome = after-plan i room offset p ∙ ap (λ (s : Bool). cond s (Refused BufferTooShort) (streamCheck i)) long;
       inside = before;
-      room-left = omega (arith, before, after, b);
+      long = omega (arith, before, after, b);
     }
+
+-- ---- the call once its profile is chosen
+
+-- the choice of the choice is the choice
+tail-again : (m : Mode) (given : Bool) (icc linked : List ℕ) → tailIn m given (tailIn m given icc linked) (tailIn m given icc linked) ≡ tailIn m given icc linked
+unfolding tailIn
+tail-again m given icc linked = go (isProfiled m) given
+  where
+    go : (a b : Bool) → cond a (cond b (cond a (cond b linked icc) []) (cond a (cond b linked icc) [])) [] ≡ cond a (cond b linked icc) []
+    go true true = refl
+    go true false = refl
+    go false b = refl
+
+module _ (i : Input) (profile : List ℕ) (e : profile ≡ tailOf i) where
+  abbrev same : Input
+  same = chosen (i .source) (i .options) (i .plane) (i .palette) profile
+
+  tails : tailOf same ≡ tailOf i
+  tails = (λ z. tailIn (modeIn i) (i .source .«has_linked_icc») (e z) (e z)) ∙ tail-again (modeIn i) (i .source .«has_linked_icc») (i .icc) (i .linked)
+
+  -- it is the profile of the call
+  pub own-tail : profile ≡ tailOf same
+  own-tail = e ∙ sym tails
+
+  pub same-plan : (l : Layout) (s : Sizes) → Planned i l s → Planned same l s
+  unfolding planRows fileTooLarge plainSize
+  same-plan l s p =
+      record {
+        passed = ap (λ (t : List ℕ). firstOf (callRows i ++ ((not (rlePlanned i) && ltb maxFile (headBytes i + rawBytes i + length t), FileTooLarge) ∷ []))) tails ∙ p .passed;
+        layout-is = p .layout-is;
+        sizes-are = p .sizes-are ∙ ap (λ (t : List ℕ). sizesBy maxFile (headBytes i) (rawBytes i) (length t) (rlePlanned i) (i .source .width)) (sym tails);
+      }
+
+  same-check : streamCheck same ≡ streamCheck i
+  unfolding streamOverBudget plainSize budget streamOf
+  same-check = ap (λ (t : List ℕ). firstOf ((rlePlanned i && ltb maxFile (headBytes i + rawBytes i + length t) && not (ltb (length (streamOf i)) (budget maxFile i)), StreamOverBudget) ∷ [])) tails
+
+  same-size : fileSize maxFile same ≡ fileSize maxFile i
+  unfolding fileSize pixels streamUsed budget streamOf storedRowsOf
+  same-size = ap (λ (t : List ℕ). headBytes i + length (pixels maxFile i) + length t) tails
+
+  same-file : fileOf maxFile same ≡ fileOf maxFile i
+  unfolding fileOf headOf colourTable imageSize compressionOf fileSize pixels streamUsed budget streamOf storedRowsOf
+  same-file =
+      λ z. (fileHeader (same-size z) (headBytes i)
+      ++ infoHeader (headerSize (modeIn i) (i .source .format)) (i .source .width) (storedHeight i) (depthIn i) (compressionOf maxFile i) (imageSize i) pelsPerMeter pelsPerMeter (clrUsed (depthIn i) (entriesOf i))
+      ++ headRest (modeIn i) (i .source) (i .options) (length (tails z)) (headBytes i - 14 + rawBytes i)
+      ++ colourTable i) ++ pixels maxFile i ++ tails z
+
+  -- so answer and buffer are the call's
+  pub same-answer : encodedFor (streamCheck same) same ≡ encodedFor (streamCheck i) i
+  unfolding formatOf streamUsed budget streamOf
+  same-answer = ap (λ (c : Check). encodedFor c same) same-check ∙ go (streamCheck i)
+    where
+      go : (c : Check) → encodedFor c same ≡ encodedFor c i
+      go Passed = λ z. encoded.File (formatOf maxFile i) (same-size z)
+      go (Refused why) = refl
+
+  pub same-later : (at : ℕ) (d : List ℕ) → laterFor (streamCheck same) same at d ≡ laterFor (streamCheck i) i at d
+  same-later at d = ap (λ (c : Check). laterFor c same at d) same-check ∙ go (streamCheck i)
+    where
+      go : (c : Check) → laterFor c same at d ≡ laterFor c i at d
+      go Passed = ap (put d at) same-file
+      go (Refused why) = refl
 
 -- ---- the promise
 

@@ -1,143 +1,109 @@
--- Laws of the functions that write the head from a call's arguments.
+-- Laws of the functions that write the head of a layout.
 use mathlib.Core.Path.{_≡_, refl, sym, ap, _∙_}
-use mathlib.Core.Bool.{Bool, true, false, cond, _||_}
-use mathlib.Core.List.{List, [], _++_}
-use Prim.Native.Nat.{ℕ, _+_, _-_, _*_, _≤_, _<_}
+use mathlib.Core.Bool.{Bool, true, false, cond}
+use mathlib.Core.List.{List, [], _∷_, _++_}
+use Prim.Native.Nat.{ℕ, _+_, _-_, _*_, _≤_}
 use native.Mathlib.Omega.{arith}
-use borrow.Author.Tests.{lt-ltb, le-ltb}
-use lib.Dec.{ltb, eqb}
+use lib.IntN.{pos}
 use lib.ListN.{length, replicate, length-append}
-use Rattle.leaves.specs.declared.error.Refusal.{Refusal}
-use Rattle.leaves.specs.declared.error.Refusal.the-variants.{FileTooLarge}
+use Rattle.leaves.specs.declared.encoder.EncodeSource.{EncodeSource}
+use Rattle.leaves.specs.declared.options.EncodeOptions.{EncodeOptions}
+use Rattle.leaves.specs.Bytes.{le32}
+use Rattle.leaves.specs.Formats.{isRgb565}
 use Rattle.leaves.specs.Lists.{cat}
 use Rattle.leaves.specs.Put.{put}
 use Rattle.leaves.specs.Sizes.{clrUsed}
-use Rattle.format.specs.File.{Mode, masked, calibrated, profiled, plain, modeOf, tailOf, depthIn, entriesOf, tableEntry, isRgb565, headerSize, longMasks, maskTail, headRest, headBytes, storedHeight, imageSize, pelsPerMeter, headOf}
-use Rattle.format.specs.Headers.{fileHeader, infoHeader, v4Fields, v5Fields, longs}
-use Rattle.format.specs.Input.{Input}
-use Rattle.planner.specs.declared.encoder.Encoded.the-variants as encoded
-use Rattle.planner.specs.declared.plan.Plan.{Plan}
-use Rattle.planner.specs.declared.plan.Plan.the-variants as plan
-use Rattle.planner.specs.declared.plan.Sizes.{Sizes}
-use Rattle.planner.specs.Plans.{infoOf, refusalOf}
+use Rattle.format.specs.declared.layout.Layout.{Layout}
+use Rattle.format.specs.declared.layout.Mode.{Mode}
+use Rattle.format.specs.declared.layout.Mode.the-variants.{Masked, Calibrated, Profiled, Plain}
+use Rattle.format.specs.File.{tableEntry}
+use Rattle.format.specs.Headers.{dwords, v4Fields, v5Fields, longs}
+use Rattle.format.specs.Layout.{longMasks, maskTail, headRest}
 use Rattle.leaves.proofs.Puts.{put-nil}
-use Rattle.leaves.proofs.Tests.{or-first}
 use Rattle.format.proofs.HeadFields.{length-fileHeader, length-infoHeader, rest-length}
-use Rattle.format.proofs.HeadTable.{v4-length, four-masks}
+use Rattle.format.proofs.HeadTable.{v4-length, four-masks, longs-length}
+use Rattle.planner.specs.declared.heads.FirstFields.{FirstFields}
+use Rattle.planner.specs.Plans.{firstFields, restLen, headBy}
 use Rattle.planner.proofs.HeadLaws.{put-next}
-use Rattle.planner.proofs.Unread.{bare, tabled, framed, rest-bare, head-parts, head-of-parts}
 
--- ---- the refusal that a plan has
+-- ---- what stands between the first 40 bytes of the info header and the colour table
 
--- a ready plan has none: it answers 14
-pub refusal-ready : (p : Plan) (s : Sizes) → p ≡ plan.Ready s → encoded.Refused FileTooLarge ≡ refusalOf p
-refusal-ready p s e = sym (ap refusalOf e)
+-- nine endpoints of 0
+no-ends : longs (replicate 9 (pos 0)) ≡ replicate 9 0
+unfolding longs
+no-ends = refl
 
--- a refused plan has its own
-pub refusal-why : (p : Plan) (why : Refusal) → p ≡ plan.Refused why → encoded.Refused why ≡ refusalOf p
-refusal-why p why e = sym (ap refusalOf e)
+module _ (m : Mode) (s : EncodeSource) (o : EncodeOptions) (size at : ℕ) where
+  -- of a mode that is known
+  by-mode : (n : Mode) → m ≡ n → headRest n s o size at ≡ headRest m s o size at
+  by-mode n e = sym (ap (λ (x : Mode). headRest x s o size at) e)
 
--- ---- the test of the room
-
--- the offset is past the end
-pub short-before : (room offset bound : ℕ) → room < offset → true ≡ (ltb room offset || ltb (room - offset) bound)
-short-before room offset bound h = sym (or-first (ltb room offset) (ltb (room - offset) bound) (lt-ltb room offset h))
-
--- the offset is inside
-pub short-after : (room offset bound : ℕ) → offset ≤ room → ltb (room - offset) bound ≡ (ltb room offset || ltb (room - offset) bound)
-short-after room offset bound h = sym (ap (λ (b : Bool). b || ltb (room - offset) bound) (le-ltb room offset h))
-
--- ---- the first 40 bytes of the info header
-
--- its fields, each by what it was computed from
-pub info-is : (i : Input) (m : Mode) (size height depth image used entries compression pixelBytes : ℕ) → m ≡ modeOf i
-    → size ≡ headerSize m (i .source .format) → height ≡ storedHeight i → depth ≡ depthIn (modeOf i) i → image ≡ cond (eqb size 40) 0 pixelBytes
-    → used ≡ clrUsed depth entries
-    → infoHeader size (i .source .width) height depth compression image pelsPerMeter pelsPerMeter used ≡ infoOf i entries compression pixelBytes
-unfolding infoOf imageSize
-info-is i m size height depth image used entries compression pixelBytes em es eh ed ei eu =
-    let s : size ≡ headerSize (modeOf i) (i .source .format) = es ∙ ap (λ (k : Mode). headerSize k (i .source .format)) em in
-    let g : image ≡ imageSize i pixelBytes = ei ∙ ap (λ (n : ℕ). cond (eqb n 40) 0 pixelBytes) s in
-    let u : used ≡ clrUsed (depthIn (modeOf i) i) entries = eu ∙ ap (λ (n : ℕ). clrUsed n entries) ed in
-    λ z. infoHeader (s z) (i .source .width) (eh z) (ed z) compression (g z) pelsPerMeter pelsPerMeter (u z)
-
--- ---- what stands behind them, by the mode
-
-module _ (m : Mode) (i : Input) where
-  -- masks
-  pub rest-masked : (at : ℕ) → masked ≡ m → maskTail (i .options .bitfields .masks) ≡ headRest m i at
+  pub rest-masked : m ≡ Masked → maskTail (o .bitfields .masks) ≡ headRest m s o size at
   unfolding headRest
-  rest-masked at e = ap (λ (k : Mode). headRest k i at) e
+  rest-masked e = by-mode Masked e
 
-  -- calibrated colour
-  pub rest-calibrated : (at : ℕ) (masks ends : List ℕ) → calibrated ≡ m → masks ≡ longMasks (i .source .format)
-      → ends ≡ longs (i .options .«calibrated_rgb» .endpoints) → v4Fields masks 0 ends (i .options .«calibrated_rgb» .gamma) ≡ headRest m i at
+  pub rest-calibrated : (masks : List ℕ) → m ≡ Calibrated → masks ≡ longMasks (s .format)
+      → v4Fields masks 0 (longs (o .«calibrated_rgb» .endpoints)) (o .«calibrated_rgb» .gamma) ≡ headRest m s o size at
   unfolding headRest
-  rest-calibrated at masks ends e f g =
-      (λ z. v4Fields (f z) 0 (g z) (i .options .«calibrated_rgb» .gamma)) ∙ ap (λ (k : Mode). headRest k i at) e
+  rest-calibrated masks e f = ap (λ (x : List ℕ). v4Fields x 0 (longs (o .«calibrated_rgb» .endpoints)) (o .«calibrated_rgb» .gamma)) f ∙ by-mode Calibrated e
 
-  -- a profile
-  pub rest-profiled : (d b t profile : List ℕ) (at place space : ℕ) → profiled ≡ m → m ≡ modeOf i
-      → space ≡ cond (i .source .«has_linked_icc») 0x4C494E4B 0x4D424544 → profile ≡ tailOf (modeOf i) i → at + 84 ≤ length d
-      → b ≡ put d at (v4Fields (longMasks (i .source .format)) space (replicate 9 0) (replicate 3 0))
-      → t ≡ put b (at + 68) (v5Fields (i .options .«rendering_intent») place (length profile)) → t ≡ put d at (headRest m i place)
-  unfolding headRest
-  rest-profiled d b t profile at place space e f g h room was is =
-      let tail : profile ≡ tailOf profiled i = h ∙ ap (λ (k : Mode). tailOf k i) (sym (e ∙ f)) in
-      put-next d b t (v4Fields (longMasks (i .source .format)) space (replicate 9 0) (replicate 3 0))
-      (v5Fields (i .options .«rendering_intent») place (length profile)) at 68 (at + 68)
-      (v4-length (longMasks (i .source .format)) space (replicate 9 0) (replicate 3 0) (four-masks (i .source .format)) refl refl) refl (omega arith) was is
-      ∙ (λ z. put d at (v4Fields (longMasks (i .source .format)) (g z) (replicate 9 0) (replicate 3 0)
-      ++ v5Fields (i .options .«rendering_intent») place (length (tail z))))
-      ∙ ap (λ (k : Mode). put d at (headRest k i place)) e
+  pub rest-profiled : (d b c masks : List ℕ) (place space : ℕ) → m ≡ Profiled → masks ≡ longMasks (s .format) → space ≡ cond (s .«has_linked_icc») 0x4C494E4B 0x4D424544 → place + 84 ≤ length d
+      → b ≡ put d place (v4Fields masks space (longs (replicate 9 (pos 0))) (replicate 3 0)) → c ≡ put b (place + 68) (dwords (o .«rendering_intent» ∷ at ∷ size ∷ 0 ∷ []))
+      → c ≡ put d place (headRest m s o size at)
+  unfolding headRest dwords v5Fields le32
+  rest-profiled d b c masks place space e f g room was is =
+      let first = v4Fields (longMasks (s .format)) (cond (s .«has_linked_icc») 0x4C494E4B 0x4D424544) (replicate 9 0) (replicate 3 0) in
+      let long = v4-length (longMasks (s .format)) (cond (s .«has_linked_icc») 0x4C494E4B 0x4D424544) (replicate 9 0) (replicate 3 0) (four-masks (s .format)) refl refl in
+      put-next d b c first (v5Fields (o .«rendering_intent») at size) place 68 (place + 68) long refl (omega arith)
+      (was ∙ (λ z. put d place (v4Fields (f z) (g z) (no-ends z) (replicate 3 0)))) is
+      ∙ ap (put d place) (by-mode Profiled e)
 
-  -- the 108-byte header of Rgb565
-  pub rest-long : (at : ℕ) → plain ≡ m → isRgb565 (i .source .format) ≡ true
-      → v4Fields (longMasks (i .source .format)) 0x73524742 (replicate 9 0) (replicate 3 0) ≡ headRest m i at
+  pub rest-long : (masks : List ℕ) → m ≡ Plain → masks ≡ longMasks (s .format) → isRgb565 (s .format) ≡ true
+      → v4Fields masks 0x73524742 (longs (replicate 9 (pos 0))) (replicate 3 0) ≡ headRest m s o size at
   unfolding headRest
-  rest-long at e f =
-      sym (ap (λ (b : Bool). cond b (v4Fields (longMasks (i .source .format)) 0x73524742 (replicate 9 0) (replicate 3 0)) []) f)
-      ∙ ap (λ (k : Mode). headRest k i at) e
+  rest-long masks e f t =
+      (λ z. v4Fields (f z) 0x73524742 (no-ends z) (replicate 3 0))
+      ∙ sym (ap (λ (b : Bool). cond b (v4Fields (longMasks (s .format)) 0x73524742 (replicate 9 0) (replicate 3 0)) []) t) ∙ by-mode Plain e
 
-  -- the 40-byte header ends there
-  pub rest-none : (d : List ℕ) (at place : ℕ) → plain ≡ m → isRgb565 (i .source .format) ≡ false → d ≡ put d at (headRest m i place)
+  pub rest-none : (d : List ℕ) (place : ℕ) → m ≡ Plain → isRgb565 (s .format) ≡ false → d ≡ put d place (headRest m s o size at)
   unfolding headRest
-  rest-none d at place e f =
-      sym (put-nil d at)
-      ∙ ap (put d at)
-      (sym (ap (λ (b : Bool). cond b (v4Fields (longMasks (i .source .format)) 0x73524742 (replicate 9 0) (replicate 3 0)) []) f)
-      ∙ ap (λ (k : Mode). headRest k i place) e)
+  rest-none d place e t =
+      sym (put-nil d place)
+      ∙ ap (put d place) (sym (ap (λ (b : Bool). cond b (v4Fields (longMasks (s .format)) 0x73524742 (replicate 9 0) (replicate 3 0)) []) t) ∙ by-mode Plain e)
+
+-- its length
+pub rest-room : (m : Mode) (s : EncodeSource) (o : EncodeOptions) → length (o .«calibrated_rgb» .endpoints) ≡ 9 → length (o .«calibrated_rgb» .gamma) ≡ 3
+    → restLen m s o ≡ length (headRest m s o 0 0)
+unfolding headRest v5Fields le32
+rest-room Masked s o nine three = refl
+rest-room Calibrated s o nine three =
+    sym (v4-length (longMasks (s .format)) 0 (longs (o .«calibrated_rgb» .endpoints)) (o .«calibrated_rgb» .gamma) (four-masks (s .format)) (longs-length (o .«calibrated_rgb» .endpoints) ∙ nine) three)
+rest-room Profiled s o nine three =
+    simp (
+      length-append,
+      v4-length (longMasks (s .format)) (cond (s .«has_linked_icc») 0x4C494E4B 0x4D424544) (replicate 9 0) (replicate 3 0) (four-masks (s .format)) refl refl,
+    )
+rest-room Plain s o nine three = go (isRgb565 (s .format))
+  where
+    go : (b : Bool) → cond b 68 0 ≡ length (cond b (v4Fields (longMasks (s .format)) 0x73524742 (replicate 9 0) (replicate 3 0)) [])
+    go true = sym (v4-length (longMasks (s .format)) 0x73524742 (replicate 9 0) (replicate 3 0) (four-masks (s .format)) refl refl)
+    go false = refl
 
 -- ---- the head
 
--- four writes, one behind the other
-four-puts : (d b1 b2 b3 b4 file info rest table : List ℕ) (at n q : ℕ) → length file ≡ 14 → length info ≡ 40 → length rest ≡ n → q ≡ at + (54 + n)
-    → at + (54 + n) ≤ length d → b1 ≡ put d at file → b2 ≡ put b1 (at + 14) info → b3 ≡ put b2 (at + 54) rest → b4 ≡ put b3 q table
-    → b4 ≡ put d at (file ++ info ++ rest ++ table)
-four-puts d b1 b2 b3 b4 file info rest table at n q l1 l2 l3 p room e1 e2 e3 e4 =
-    let k2 : length (file ++ info) ≡ 54 = length-append file info ∙ omega arith in
-    let k3 : length (file ++ info ++ rest) ≡ 54 + n = length-append (file ++ info) rest ∙ omega arith in
-    let s2 = put-next d b1 b2 file info at 14 (at + 14) l1 refl (omega arith) e1 e2 in
-    let s3 = put-next d b2 b3 (file ++ info) rest at 54 (at + 54) k2 refl (omega arith) s2 e3 in
-    put-next d b3 b4 (file ++ info ++ rest) table at (54 + n) q k3 p room s3 e4
+first-length : (h : FirstFields) → length (firstFields h) ≡ 54
+unfolding firstFields
+first-length h = simp (length-append, length-fileHeader, length-infoHeader)
 
--- the whole head
-pub head-written : (i : Input) (d b1 b2 b3 b4 : List ℕ) (at head entries compression pixelBytes fileSize place q : ℕ) → head ≡ headBytes (tabled i)
-    → entries ≡ entriesOf (tabled i) → place ≡ head - 14 + pixelBytes → q ≡ at + head - 4 * entries → at + head ≤ length d
-    → b1 ≡ put d at (fileHeader fileSize head) → b2 ≡ put b1 (at + 14) (infoOf (bare i) entries compression pixelBytes)
-    → b3 ≡ put b2 (at + 54) (headRest (modeOf (bare i)) (framed i) place) → b4 ≡ put b3 q (cat (tableEntry (i .palette)) entries)
-    → b4 ≡ put d at (headOf i compression pixelBytes fileSize)
-unfolding infoOf modeOf
-head-written i d b1 b2 b3 b4 at head entries compression pixelBytes fileSize place q eh ee ep eq room e1 e2 e3 e4 =
-    let n = length (headRest (modeOf (bare i)) (bare i) 0) in
-    let parts : head ≡ 54 + n + 4 * entries = eh ∙ head-parts (tabled i) ∙ ap (λ (k : ℕ). 54 + n + 4 * k) (sym ee) in
-    let behind : place ≡ headBytes (tabled i) - 14 + pixelBytes = ep ∙ ap (λ (k : ℕ). k - 14 + pixelBytes) eh in
-    let long : length (headRest (modeOf (bare i)) (framed i) place) ≡ n = rest-length (modeOf (framed i)) (framed i) place ∙ rest-bare (framed i) in
-    four-puts d b1 b2 b3 b4 (fileHeader fileSize head) (infoOf (bare i) entries compression pixelBytes) (headRest (modeOf (bare i)) (framed i) place)
-    (cat (tableEntry (i .palette)) entries) at n q (length-fileHeader fileSize head)
-    (length-infoHeader (headerSize (modeOf (bare i)) (i .source .format)) (i .source .width) (storedHeight (bare i)) (depthIn (modeOf (bare i)) (bare i)) compression
-    (imageSize (bare i) pixelBytes) pelsPerMeter pelsPerMeter (clrUsed (depthIn (modeOf (bare i)) (bare i)) entries))
-    long (omega arith) (omega arith) e1 e2 e3 e4
-    ∙ (λ z. put d at (fileHeader fileSize (eh z) ++ infoOf (bare i) (ee z) compression pixelBytes ++ headRest (modeOf (framed i)) (framed i) (behind z)
-    ++ cat (tableEntry (i .palette)) (ee z)))
-    ∙ ap (put d at) (sym (head-of-parts i compression pixelBytes fileSize))
+-- three writes, one behind the other
+pub head-written : (d b1 b2 b3 palette : List ℕ) (at head q size place : ℕ) (h : FirstFields) (l : Layout) (s : EncodeSource) (o : EncodeOptions)
+    → head ≡ 54 + length (headRest (l .mode) s o 0 0) + 4 * l .entries → at + head ≤ length d → q ≡ at + head - 4 * l .entries
+    → b1 ≡ put d at (firstFields h) → b2 ≡ put b1 (at + 54) (headRest (l .mode) s o size place) → b3 ≡ put b2 q (cat (tableEntry palette) (l .entries))
+    → b3 ≡ put d at (firstFields h ++ headRest (l .mode) s o size place ++ cat (tableEntry palette) (l .entries))
+head-written d b1 b2 b3 palette at head q size place h l s o parts room e w1 w2 w3 =
+    let rest = rest-length (l .mode) s o size place in
+    let n : ℕ = 54 + length (headRest (l .mode) s o 0 0) in
+    let first = first-length h in
+    let both : length (firstFields h ++ headRest (l .mode) s o size place) ≡ n = length-append (firstFields h) (headRest (l .mode) s o size place) ∙ omega (arith, first, rest) in
+    let s2 = put-next d b1 b2 (firstFields h) (headRest (l .mode) s o size place) at 54 (at + 54) first refl (omega (arith, parts)) w1 w2 in
+    put-next d b2 b3 (firstFields h ++ headRest (l .mode) s o size place) (cat (tableEntry palette) (l .entries)) at n q both (omega (arith, parts, e)) (omega (arith, parts)) s2 w3

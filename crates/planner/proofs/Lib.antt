@@ -1,11 +1,9 @@
 pub mod CallLaws
+pub mod FileWrites
 pub mod HeadLaws
 pub mod HeadWrites
+pub mod LayoutLaws
 pub mod Longs
-pub mod ModeLaws
 pub mod PlanLaws
 pub mod Promises
-pub mod RowWrites
-pub mod StreamWrites
-pub mod Unread
 pub mod WriteChoice

@@ -1,19 +1,16 @@
--- A LONG's 32 bits, as the code computes them, and nine of them.
+-- A LONG's 32 bits, as the code computes them.
 use mathlib.Core.Path.{_≡_, refl, sym, ap, _∙_, subst}
 use mathlib.Core.Bool.{true, false}
-use mathlib.Core.List.{List, [], _∷_}
 use Prim.Native.Nat.{ℕ, zero, suc, _-_, _<_, _≤_}
 use native.Mathlib.Nat.{not-suc-le-zero}
 use native.Mathlib.Omega.{arith}
 use borrow.Author.Tests.{ltb-true}
 use lib.Dec.{T}
 use lib.IntN.{ℤ, pos, negsuc, negℤ, sucℤ, natAbs, _+ℤ_, _-ℤ_, +ℤ-one, +ℤ-idl}
-use lib.ListN.{length, getD}
 use lib.Signed.{mag, ltZ, nonNeg}
 use mir.Syntax.{w32}
 use mir.Val.{Fits, SFits, ofZ, toZ}
 use mir.Facts.{toZ-ofZ}
-use Rattle.format.specs.Headers.{longs}
 
 -- what the code computes below 0, as the machine has it
 abbrev up : ℤ → ℤ
@@ -82,20 +79,3 @@ high (negsuc n) f e = let q : ltZ (negsuc n) (pos 0) ≡ false = rw (toZ-ofZ f) 
 -- what is computed of the machine's form of a number
 pub long-of : (z : ℤ) (r : ℕ) → mag z < 2147483648 → r ≡ ofZ w32 (toZ w32 (ofZ w32 z)) → r ≡ ofZ w32 z
 long-of z r h e = let f : SFits w32 z = record { sfits = h } in e ∙ ap (ofZ w32) (toZ-ofZ f)
-
--- nine numbers, each as its bits
-pub nine-longs : (zs : List ℤ) (d : ℤ) → length zs ≡ 9
-    → ofZ w32 (getD zs 0 d) ∷ ofZ w32 (getD zs 1 d) ∷ ofZ w32 (getD zs 2 d) ∷ ofZ w32 (getD zs 3 d) ∷ ofZ w32 (getD zs 4 d) ∷ ofZ w32 (getD zs 5 d)
-    ∷ ofZ w32 (getD zs 6 d) ∷ ofZ w32 (getD zs 7 d) ∷ ofZ w32 (getD zs 8 d) ∷ [] ≡ longs zs
-unfolding longs
-nine-longs (a0 ∷ a1 ∷ a2 ∷ a3 ∷ a4 ∷ a5 ∷ a6 ∷ a7 ∷ a8 ∷ []) d e = refl
-nine-longs (a0 ∷ a1 ∷ a2 ∷ a3 ∷ a4 ∷ a5 ∷ a6 ∷ a7 ∷ a8 ∷ a9 ∷ zs) d e = absurd (omega arith)
-nine-longs [] d e = absurd (omega arith)
-nine-longs (a0 ∷ []) d e = absurd (omega arith)
-nine-longs (a0 ∷ a1 ∷ []) d e = absurd (omega arith)
-nine-longs (a0 ∷ a1 ∷ a2 ∷ []) d e = absurd (omega arith)
-nine-longs (a0 ∷ a1 ∷ a2 ∷ a3 ∷ []) d e = absurd (omega arith)
-nine-longs (a0 ∷ a1 ∷ a2 ∷ a3 ∷ a4 ∷ []) d e = absurd (omega arith)
-nine-longs (a0 ∷ a1 ∷ a2 ∷ a3 ∷ a4 ∷ a5 ∷ []) d e = absurd (omega arith)
-nine-longs (a0 ∷ a1 ∷ a2 ∷ a3 ∷ a4 ∷ a5 ∷ a6 ∷ []) d e = absurd (omega arith)
-nine-longs (a0 ∷ a1 ∷ a2 ∷ a3 ∷ a4 ∷ a5 ∷ a6 ∷ a7 ∷ []) d e = absurd (omega arith)

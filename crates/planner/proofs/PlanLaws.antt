@@ -1,218 +1,79 @@
--- Laws of the plan: rows in a row, sizes as numbers, and what a plan says of the call.
+-- The plan: the checks in a row, the sizes, and what a plan says.
 use mathlib.Core.Path.{_≡_, refl, sym, ap, _∙_}
-use mathlib.Core.Bool.{Bool, true, false, false≢true, not, cond}
+use mathlib.Core.Bool.{Bool, true, false, not, cond, _&&_, false≢true}
 use mathlib.Core.List.{List, [], _∷_, _++_}
 use Prim.Native.Nat.{ℕ, _+_, _-_, _*_, _≤_, _<_, min, max}
 use native.Mathlib.Nat.{mul-le-mul}
 use native.Mathlib.Omega.{arith}
-use borrow.Author.Tests.{not-true, not-false, lt-ltb, le-ltb, le-leb, lt-leb, leb-true, leb-false}
-use lib.Dec.{leb}
+use borrow.Author.Tests.{leb-true, leb-false, le-leb, lt-leb, lt-ltb, le-ltb}
+use lib.Dec.{leb, ltb}
 use lib.ListN.{length}
+use Rattle.leaves.specs.declared.encoder.EncodeSource.{EncodeSource}
+use Rattle.leaves.specs.declared.options.EncodeOptions.{EncodeOptions}
 use Rattle.leaves.specs.declared.error.Check.{Check}
 use Rattle.leaves.specs.declared.error.Check.the-variants as check
 use Rattle.leaves.specs.declared.error.Refusal.{Refusal}
-use Rattle.leaves.specs.declared.error.Refusal.the-variants.{MaskSource, FileTooLarge}
-use Rattle.leaves.specs.Formats.{bytesPerPixel, isIndexed}
-use Rattle.leaves.specs.Masks.{bitfieldsRows}
-use Rattle.leaves.specs.Refusals.{checkNumber, firstOf, firstNumber, profileMode, dimensionRows, paletteRows, modeRows, planeRows}
+use Rattle.leaves.specs.declared.error.Refusal.the-variants.{FileTooLarge}
+use Rattle.leaves.specs.Refusals.{checkNumber, firstOf, orElse}
 use Rattle.leaves.specs.Sizes.{rowStride}
-use Rattle.leaves.proofs.FirstOf.{check-determined, first-pass, first-stop}
-use Rattle.format.specs.File.{modeOf, tailOf, depthIn, headBytes, rawBytes, rlePlanned, maxFile, budget, plainSize, boundOf}
+use Rattle.leaves.proofs.FirstOf.{first-or, first-pass, first-stop}
+use Rattle.format.specs.declared.layout.Layout.{Layout}
+use Rattle.format.specs.File.{depthIn, rawBytes, headBytes, tailOf, rlePlanned, maxFile, plainSize, budget, boundOf}
 use Rattle.format.specs.Input.{Input}
-use Rattle.format.specs.Refusals.{maskSource, fileTooLarge, givenMasksRows, checkRows, planRows}
-use Rattle.format.proofs.Acceptance.{checked}
+use Rattle.format.specs.Layout.{isStream, depthOf, rawLen, headLen, wantsRle, layoutOf}
+use Rattle.format.specs.Refusals.{fileTooLarge, checkRows, callRows, planRows}
+use Rattle.format.proofs.Acceptance.{ChecksPassed}
 use Rattle.format.proofs.HeadFields.{depth-le}
-use Rattle.format.proofs.Modes.{masks-given, planned-in, no-tail}
+use Rattle.format.proofs.Modes.{planned-in, no-tail}
 use Rattle.planner.specs.declared.plan.Plan.{Plan}
 use Rattle.planner.specs.declared.plan.Plan.the-variants as plan
 use Rattle.planner.specs.declared.plan.SizeBound.the-variants as sized
 use Rattle.planner.specs.declared.plan.Sizes.{Sizes}
 use Rattle.planner.specs.Answers.{Sized, boundFor}
-use Rattle.planner.specs.Plans.{sizesOf, planBy, planOf, sizesPlan}
-use Rattle.planner.proofs.Unread.{bare, unframed, masks-bare, checks-unframed, depth-bare}
-
--- ---- 6 to 11
-
--- a check's number and its answer say which row is the first
-pub by-check : (r x : Check) (rows : List (Bool × Refusal)) → checkNumber r ≡ firstNumber rows → r ≡ x → firstOf rows ≡ x
-by-check r x rows e q = sym (check-determined r (firstOf rows) e) ∙ q
-
--- without masks they pass
-pub no-masks : (i : Input) → not (i .options .«has_bitfields») ≡ true → check.Passed ≡ firstOf (givenMasksRows i)
-unfolding givenMasksRows
-no-masks i e = rw (not-true (i .options .«has_bitfields») e)
-
--- the masks are refused
-pub masks-stop : (i : Input) (r : Check) (why : Refusal) → not (i .options .«has_bitfields») ≡ false
-    → checkNumber r ≡ firstNumber (bitfieldsRows (i .options .bitfields .bpp) (i .options .bitfields .masks)) → r ≡ check.Refused why
-    → check.Refused why ≡ firstOf (givenMasksRows i)
-unfolding givenMasksRows
-masks-stop i r why g e q =
-    let rows = bitfieldsRows (i .options .bitfields .bpp) (i .options .bitfields .masks) in
-    let last : List (Bool × Refusal) = (maskSource (i .source .format), MaskSource) ∷ [] in
-    sym (ap (λ (b : Bool). firstOf (cond b (rows ++ last) [])) (not-false (i .options .«has_bitfields») g)
-    ∙ first-stop rows last why (by-check r (check.Refused why) rows e q))
-
--- the masks are accepted: 11 is left
-pub masks-rest : (i : Input) (r : Check) (s t : Bool) → not (i .options .«has_bitfields») ≡ false
-    → checkNumber r ≡ firstNumber (bitfieldsRows (i .options .bitfields .bpp) (i .options .bitfields .masks)) → r ≡ check.Passed
-    → s ≡ not (maskSource (i .source .format)) → not s ≡ t → cond t (check.Refused MaskSource) check.Passed ≡ firstOf (givenMasksRows i)
-unfolding givenMasksRows
-masks-rest i r s t g e q f n =
-    let rows = bitfieldsRows (i .options .bitfields .bpp) (i .options .bitfields .masks) in
-    let last : List (Bool × Refusal) = (maskSource (i .source .format), MaskSource) ∷ [] in
-    sym (ap (λ (b : Bool). firstOf (cond b (rows ++ last) [])) (not-false (i .options .«has_bitfields») g)
-    ∙ first-pass rows last (by-check r check.Passed rows e q)
-    ∙ ap (λ (b : Bool). cond b (check.Refused MaskSource) check.Passed) (twice (maskSource (i .source .format)) ∙ ap not (sym f) ∙ n))
-  where
-    twice : (b : Bool) → b ≡ not (not b)
-    twice true = refl
-    twice false = refl
-
--- ---- 1 to 13
-
--- 1 and 2
-abbrev pub dims : Input → List (Bool × Refusal)
-dims i = dimensionRows (i .source .width) (i .source .height)
-
--- 3 and 4
-abbrev pub pals : Input → List (Bool × Refusal)
-pals i = paletteRows (isIndexed (i .source .format)) (i .source .«has_palette») (length (i .palette))
-
--- 5
-abbrev pub modes : Input → List (Bool × Refusal)
-modes i = modeRows (i .options .«has_bitfields») (i .options .«has_calibrated_rgb») (profileMode (i .source .«has_linked_icc») (i .source .«has_icc») (i .options .«embed_icc»))
-
--- 12 and 13
-abbrev pub planes : Input → List (Bool × Refusal)
-planes i = planeRows (i .source .width) (i .source .height) (i .source .stride) (bytesPerPixel (i .source .format)) (length (i .plane))
-
--- a callee's flag or count replaced by what it is
-pub pals-check : (i : Input) (r x : Check) (b : Bool) → b ≡ isIndexed (i .source .format)
-    → checkNumber r ≡ firstNumber (paletteRows b (i .source .«has_palette») (length (i .palette))) → r ≡ x → firstOf (pals i) ≡ x
-pals-check i r x b f e q =
-    by-check r x (pals i) (e ∙ ap (λ (z : Bool). firstNumber (paletteRows z (i .source .«has_palette») (length (i .palette)))) f) q
-
--- the mode by the flag of the profiles
-pub modes-check : (i : Input) (r x : Check) (b : Bool) → b ≡ profileMode (i .source .«has_linked_icc») (i .source .«has_icc») (i .options .«embed_icc»)
-    → checkNumber r ≡ firstNumber (modeRows (i .options .«has_bitfields») (i .options .«has_calibrated_rgb») b) → r ≡ x → firstOf (modes i) ≡ x
-modes-check i r x b f e q =
-    by-check r x (modes i) (e ∙ ap (λ (z : Bool). firstNumber (modeRows (i .options .«has_bitfields») (i .options .«has_calibrated_rgb») z)) f) q
-
--- the masks by what their check was handed
-pub masks-check : (i : Input) (r x : Check) → r ≡ firstOf (givenMasksRows (bare i)) → r ≡ x → firstOf (givenMasksRows i) ≡ x
-masks-check i r x e q = ap firstOf (masks-bare i) ∙ sym e ∙ q
-
--- the plane by the bytes of a pixel
-pub planes-check : (i : Input) (r : Check) (n : ℕ) → n ≡ bytesPerPixel (i .source .format)
-    → checkNumber r ≡ firstNumber (planeRows (i .source .width) (i .source .height) (i .source .stride) n (length (i .plane))) → firstOf (planes i) ≡ r
-planes-check i r n f e =
-    by-check r r (planes i)
-    (e ∙ ap (λ (z : ℕ). firstNumber (planeRows (i .source .width) (i .source .height) (i .source .stride) z (length (i .plane)))) f) refl
-
--- five groups: the first that refuses decides
-stop-first : (a b c d e : List (Bool × Refusal)) (why : Refusal) → firstOf a ≡ check.Refused why → firstOf (a ++ b ++ c ++ d ++ e) ≡ check.Refused why
-stop-first a b c d e why p = first-stop (a ++ b ++ c ++ d) e why (first-stop (a ++ b ++ c) d why (first-stop (a ++ b) c why (first-stop a b why p)))
-
--- the dimensions refuse
-pub stop-dims : (i : Input) (why : Refusal) → firstOf (dims i) ≡ check.Refused why → check.Refused why ≡ firstOf (checkRows i)
-unfolding checkRows
-stop-dims i why p = sym (stop-first (dims i) (pals i) (modes i) (givenMasksRows i) (planes i) why p)
-
--- the palette refuses
-pub stop-pals : (i : Input) (why : Refusal) → firstOf (dims i) ≡ check.Passed → firstOf (pals i) ≡ check.Refused why → check.Refused why ≡ firstOf (checkRows i)
-unfolding checkRows
-stop-pals i why a p =
-    sym (first-stop (dims i ++ pals i ++ modes i ++ givenMasksRows i) (planes i) why
-    (first-stop (dims i ++ pals i ++ modes i) (givenMasksRows i) why (first-stop (dims i ++ pals i) (modes i) why (first-pass (dims i) (pals i) a ∙ p))))
-
--- the mode refuses
-pub stop-modes : (i : Input) (why : Refusal) → firstOf (dims i) ≡ check.Passed → firstOf (pals i) ≡ check.Passed → firstOf (modes i) ≡ check.Refused why
-    → check.Refused why ≡ firstOf (checkRows i)
-unfolding checkRows
-stop-modes i why a b p =
-    sym (first-stop (dims i ++ pals i ++ modes i ++ givenMasksRows i) (planes i) why
-    (first-stop (dims i ++ pals i ++ modes i) (givenMasksRows i) why
-    (first-pass (dims i ++ pals i) (modes i) (first-pass (dims i) (pals i) a ∙ b) ∙ p)))
-
--- the masks refuse
-pub stop-masks : (i : Input) (why : Refusal) → firstOf (dims i) ≡ check.Passed → firstOf (pals i) ≡ check.Passed → firstOf (modes i) ≡ check.Passed
-    → firstOf (givenMasksRows i) ≡ check.Refused why → check.Refused why ≡ firstOf (checkRows i)
-unfolding checkRows
-stop-masks i why a b c p =
-    let two : firstOf (dims i ++ pals i) ≡ check.Passed = first-pass (dims i) (pals i) a ∙ b in
-    let three : firstOf (dims i ++ pals i ++ modes i) ≡ check.Passed = first-pass (dims i ++ pals i) (modes i) two ∙ c in
-    sym (first-stop (dims i ++ pals i ++ modes i ++ givenMasksRows i) (planes i) why (first-pass (dims i ++ pals i ++ modes i) (givenMasksRows i) three ∙ p))
-
--- four groups pass: the plane's decides
-pub pass-all : (i : Input) (r : Check) → firstOf (dims i) ≡ check.Passed → firstOf (pals i) ≡ check.Passed → firstOf (modes i) ≡ check.Passed
-    → firstOf (givenMasksRows i) ≡ check.Passed → firstOf (planes i) ≡ r → r ≡ firstOf (checkRows i)
-unfolding checkRows
-pass-all i r a b c d p =
-    let two : firstOf (dims i ++ pals i) ≡ check.Passed = first-pass (dims i) (pals i) a ∙ b in
-    let three : firstOf (dims i ++ pals i ++ modes i) ≡ check.Passed = first-pass (dims i ++ pals i) (modes i) two ∙ c in
-    let four : firstOf (dims i ++ pals i ++ modes i ++ givenMasksRows i) ≡ check.Passed = first-pass (dims i ++ pals i ++ modes i) (givenMasksRows i) three ∙ d in
-    sym (first-pass (dims i ++ pals i ++ modes i ++ givenMasksRows i) (planes i) four ∙ p)
+use Rattle.planner.specs.Plans.{sizesBy, planBy, sizesPlan, planOf, layoutIn, sizesOf, Planned}
+use Rattle.planner.proofs.LayoutLaws.{coding-planned}
 
 -- ---- sizes as numbers
 
--- whether the file fits, by the body and then by the tail: no sum is larger than the limit
-pub fits-below : (head raw tail : ℕ) (b : Bool) → head + raw ≤ maxFile → b ≡ leb tail (maxFile - (head + raw)) → b ≡ leb (head + raw + tail) maxFile
-fits-below head raw tail b h e = e ∙ go (leb tail (maxFile - (head + raw))) refl
+-- whether the file fits, by the body and then by the profile
+pub fits-below : (body tail limit : ℕ) → body ≤ limit → leb tail (limit - body) ≡ leb (body + tail) limit
+fits-below body tail limit h = go (leb tail (limit - body)) refl
   where
-    go : (t : Bool) → leb tail (maxFile - (head + raw)) ≡ t → t ≡ leb (head + raw + tail) maxFile
-    go true q = sym (le-leb (head + raw + tail) maxFile (omega (arith, leb-true tail (maxFile - (head + raw)) q)))
-    go false q = sym (lt-leb (head + raw + tail) maxFile (omega (arith, leb-false tail (maxFile - (head + raw)) q)))
+    go : (t : Bool) → leb tail (limit - body) ≡ t → t ≡ leb (body + tail) limit
+    go true q = sym (le-leb (body + tail) limit (omega (arith, leb-true tail (limit - body) q)))
+    go false q = sym (lt-leb (body + tail) limit (omega (arith, leb-false tail (limit - body) q)))
 
--- where the body alone is too large
-pub fits-over : (head raw tail : ℕ) (b : Bool) → maxFile < head + raw → b ≡ leb (head + raw) maxFile → b ≡ leb (head + raw + tail) maxFile
-fits-over head raw tail b h e = e ∙ lt-leb (head + raw) maxFile h ∙ sym (lt-leb (head + raw + tail) maxFile (omega arith))
-
--- where RLE is planned
-pub rle-ready : (head raw tail width pixels room : ℕ) (rle fits : Bool) → rle ≡ true → tail ≡ 0 → fits ≡ leb (head + raw + tail) maxFile
-    → room ≡ min raw (maxFile + 1 - head) → pixels ≡ max (room + 2 * width + 2) (cond fits raw 0)
-    → plan.Ready (record { head = head; raw = raw; file = head + raw; «file_fits» = fits; rle = rle; «rle_budget» = room; bound = head + pixels }) ≡ sizesPlan head raw tail rle width
-unfolding sizesPlan
-rle-ready head raw tail width pixels room false fits e t f b p = absurd (false≢true e)
-rle-ready head raw tail width pixels room true fits e t f b p =
+-- the plan of a stream, which has no profile
+pub stream-plan : (limit head raw tail width room bound : ℕ) (l : Layout) (fits : Bool) → isStream (l .coding) ≡ true → tail ≡ 0 → fits ≡ leb (head + raw + tail) limit
+    → room ≡ min raw (limit + 1 - head) → bound ≡ head + max (room + 2 * width + 2) (cond fits raw 0)
+    → plan.Ready l (record { head = head; raw = raw; file = head + raw; «file_fits» = fits; «rle_budget» = room; bound = bound }) ≡ sizesPlan limit l head raw tail width
+unfolding sizesPlan sizesBy
+stream-plan limit head raw tail width room bound l fits e t f b p =
     let whole : head + raw ≡ head + raw + tail = omega (arith, t) in
-    let most : pixels ≡ max (min raw (maxFile + 1 - head) + 2 * width + 2) (cond (leb (head + raw + tail) maxFile) raw 0) =
-    p ∙ (λ z. max (b z + 2 * width + 2) (cond (f z) raw 0)) in
-    λ z. plan.Ready (record { head = head; raw = raw; file = whole z; «file_fits» = f z; rle = true; «rle_budget» = b z; bound = head + most z })
+    rw e
+    (λ z. plan.Ready l (record { head = head; raw = raw; file = whole z; «file_fits» = f z; «rle_budget» = b z; bound = (p ∙ λ y. head + max (b y + 2 * width + 2) (cond (f y) raw 0)) z }))
 
--- where it is not
-pub plain-refused : (head raw tail width : ℕ) (rle fits : Bool) → rle ≡ false → fits ≡ leb (head + raw + tail) maxFile → not fits ≡ true
-    → plan.Refused FileTooLarge ≡ sizesPlan head raw tail rle width
-unfolding sizesPlan
-plain-refused head raw tail width true fits e f n = absurd (false≢true (sym e))
-plain-refused head raw tail width false fits e f n =
-    rw (lt-ltb maxFile (head + raw + tail) (leb-false (head + raw + tail) maxFile (sym f ∙ not-true fits n)))
+-- of stored rows that fit
+pub rows-plan : (limit head raw tail width room : ℕ) (l : Layout) (fits : Bool) → isStream (l .coding) ≡ false → fits ≡ leb (head + raw + tail) limit → fits ≡ true
+    → room ≡ min raw (limit + 1 - head)
+    → plan.Ready l (record { head = head; raw = raw; file = head + raw + tail; «file_fits» = fits; «rle_budget» = room; bound = head + raw + tail }) ≡ sizesPlan limit l head raw tail width
+unfolding sizesPlan sizesBy
+rows-plan limit head raw tail width room l fits e f t b =
+    rw (e, le-ltb limit (head + raw + tail) (leb-true (head + raw + tail) limit (sym f ∙ t)))
+    (λ z. plan.Ready l (record { head = head; raw = raw; file = head + raw + tail; «file_fits» = f z; «rle_budget» = b z; bound = head + raw + tail }))
 
--- and where the file fits
-pub plain-ready : (head raw tail width room : ℕ) (rle fits : Bool) → rle ≡ false → fits ≡ leb (head + raw + tail) maxFile → not fits ≡ false
-    → room ≡ min raw (maxFile + 1 - head)
-    → plan.Ready (record { head = head; raw = raw; file = head + raw + tail; «file_fits» = fits; rle = rle; «rle_budget» = room; bound = head + raw + tail })
-    ≡ sizesPlan head raw tail rle width
-unfolding sizesPlan
-plain-ready head raw tail width room true fits e f n b = absurd (false≢true (sym e))
-plain-ready head raw tail width room false fits e f n b =
-    rw (le-ltb maxFile (head + raw + tail) (leb-true (head + raw + tail) maxFile (sym f ∙ not-false fits n)))
-    (λ z. plan.Ready (record { head = head; raw = raw; file = head + raw + tail; «file_fits» = f z; rle = false; «rle_budget» = b z; bound = head + raw + tail }))
+-- and of those that do not
+pub no-plan : (limit head raw tail width : ℕ) (l : Layout) (fits : Bool) → isStream (l .coding) ≡ false → fits ≡ leb (head + raw + tail) limit → fits ≡ false
+    → plan.Refused FileTooLarge ≡ sizesPlan limit l head raw tail width
+unfolding sizesPlan sizesBy
+no-plan limit head raw tail width l fits e f t = rw (e, lt-ltb limit (head + raw + tail) (leb-false (head + raw + tail) limit (sym f ∙ t)))
+
+-- the bound of a call's sizes
+pub plan-bound : (i : Input) (s : Sizes) → s ≡ sizesOf i → s .bound ≡ boundOf maxFile i
+unfolding sizesBy boundOf budget plainSize
+plan-bound i s e = ap (λ (t : Sizes). t .bound) e
 
 -- ---- the plan
-
--- the table's outcome by the call that is checked
-pub checks-is : (i : Input) (r x : Check) → r ≡ firstOf (checkRows (unframed i)) → r ≡ x → firstOf (checkRows i) ≡ x
-checks-is i r x e q = ap firstOf (checks-unframed i) ∙ sym e ∙ q
-
--- the raw bytes by the depth
-pub raw-is : (i : Input) (d s : ℕ) → d ≡ depthIn (modeOf (bare i)) (bare i) → s ≡ rowStride (i .source .width) d → s * i .source .height ≡ rawBytes i
-unfolding rawBytes
-raw-is i d s e f = ap (λ (z : ℕ). z * i .source .height) (f ∙ ap (rowStride (i .source .width)) (e ∙ sym (depth-bare i)))
-
--- a stream is planned only where there is no tail
-pub rle-no-tail : (i : Input) (b : Bool) (n : ℕ) → b ≡ rlePlanned i → n ≡ length (tailOf (modeOf i) i) → b ≡ true → n ≡ 0
-rle-no-tail i b n e f q = f ∙ no-tail i (planned-in i (sym e ∙ q))
 
 -- a stored row is below 2^33 bytes, and the rows leave 2^33 below 2^64
 stride-le : (w d : ℕ) → w < 2147483648 → d ≤ 32 → rowStride w d ≤ 8589934588
@@ -220,84 +81,101 @@ unfolding rowStride
 stride-le w d h k = let top : w * d ≤ w * 32 = mul-le-mul (omega arith) k in omega (arith, top)
 
 -- the raw bytes of a call that passes leave 2^33 below 2^64
-pub raw-fits : (i : Input) → firstOf (checkRows i) ≡ check.Passed → rawBytes i + 8589934592 ≤ 18446744073709551616
-unfolding rawBytes
-raw-fits i e =
-    let k = checked i e in
-    let deep : depthIn (modeOf i) i ≤ 32 = depth-le (modeOf i) i (λ q. k .masks (masks-given i q) .depths) in
-    let long : rowStride (i .source .width) (depthIn (modeOf i) i) ≤ 8589934588 = stride-le (i .source .width) (depthIn (modeOf i) i) (k .wide) deep in
-    let tall : i .source .height ≤ 2147483647 = omega (arith, k .tall) in
-    let all : rowStride (i .source .width) (depthIn (modeOf i) i) * i .source .height ≤ 8589934588 * 2147483647 = mul-le-mul long tall in
+pub raw-fits : (s : EncodeSource) (o : EncodeOptions) (n : ℕ) → ChecksPassed s o n → rawLen s o + 8589934592 ≤ 18446744073709551616
+unfolding rawLen
+raw-fits s o n k =
+    let long : rowStride (s .width) (depthOf s o) ≤ 8589934588 = stride-le (s .width) (depthOf s o) (k .wide) (depth-le s o (λ q. k .masks q .depths)) in
+    let tall : s .height ≤ 2147483647 = omega (arith, k .tall) in
+    let all : rowStride (s .width) (depthOf s o) * s .height ≤ 8589934588 * 2147483647 = mul-le-mul long tall in
     omega (arith, all)
 
+-- the raw bytes by the layout's depth
+pub raw-is : (s : EncodeSource) (o : EncodeOptions) (n stride : ℕ) (l : Layout) → l ≡ layoutOf s o n → stride ≡ rowStride (s .width) (l .«bit_count») → stride * s .height ≡ rawLen s o
+unfolding rawLen layoutOf
+raw-is s o n stride l e f = ap (λ (z : ℕ). z * s .height) (f ∙ ap (λ (z : Layout). rowStride (s .width) (z .«bit_count»)) e)
+
+-- a layout tries a stream where RLE is planned
+pub stream-planned : (s : EncodeSource) (o : EncodeOptions) (n : ℕ) (l : Layout) → l ≡ layoutOf s o n → isStream (l .coding) ≡ wantsRle s o
+unfolding layoutOf
+stream-planned s o n l e = ap (λ (z : Layout). isStream (z .coding)) e ∙ coding-planned s o
+
 -- a call that is refused has a refused plan
-pub plan-stops : (i : Input) (why : Refusal) → firstOf (checkRows i) ≡ check.Refused why → plan.Refused why ≡ planOf i
-unfolding planOf planRows
-plan-stops i why e =
-    sym (ap (λ (c : Check). planBy c (sizesOf i)) (first-stop (checkRows i) ((fileTooLarge maxFile i, FileTooLarge) ∷ []) why e))
+pub plan-stops : (limit : ℕ) (s : EncodeSource) (o : EncodeOptions) (a b t : ℕ) (c : Check) (why : Refusal) → c ≡ firstOf (checkRows s o a b) → c ≡ check.Refused why
+    → plan.Refused why ≡ planOf limit s o a b t
+unfolding planOf
+plan-stops limit s o a b t c why e q =
+    sym (ap (λ (k : Check). planBy k (layoutOf s o b) (sizesBy limit (headLen s o b) (rawLen s o) t (wantsRle s o) (s .width))) (first-stop (checkRows s o a b) _ why (sym e ∙ q)))
 
-plan-sizes : (i : Input) → firstOf (checkRows i) ≡ check.Passed
-    → sizesPlan (headBytes i) (rawBytes i) (length (tailOf (modeOf i) i)) (rlePlanned i) (i .source .width) ≡ planOf i
-unfolding planOf planRows sizesPlan sizesOf fileTooLarge budget boundOf plainSize
-plan-sizes i e =
-    go (fileTooLarge maxFile i) (sizesOf i)
-    ∙ sym (ap (λ (c : Check). planBy c (sizesOf i)) (first-pass (checkRows i) ((fileTooLarge maxFile i, FileTooLarge) ∷ []) e))
-  where
-    go : (b : Bool) (s : Sizes) → cond b (plan.Refused FileTooLarge) (plan.Ready s) ≡ planBy (cond b (check.Refused FileTooLarge) check.Passed) s
-    go true s = refl
-    go false s = refl
-
--- the plan of the numbers that the callees answered
-pub plan-is : (i : Input) (r : Plan) (head raw tail : ℕ) (rle : Bool) → firstOf (checkRows i) ≡ check.Passed → head ≡ headBytes i → raw ≡ rawBytes i
-    → tail ≡ length (tailOf (modeOf i) i) → rle ≡ rlePlanned i → r ≡ sizesPlan head raw tail rle (i .source .width) → r ≡ planOf i
-plan-is i r head raw tail rle e h w t p q = q ∙ (λ z. sizesPlan (h z) (w z) (t z) (p z) (i .source .width)) ∙ plan-sizes i e
+-- of one that passes, 14 decides
+pub plan-sizes : (limit : ℕ) (s : EncodeSource) (o : EncodeOptions) (a b t head raw : ℕ) (l : Layout) (r : Plan) → firstOf (checkRows s o a b) ≡ check.Passed
+    → l ≡ layoutOf s o b → head ≡ headLen s o b → raw ≡ rawLen s o → r ≡ sizesPlan limit l head raw t (s .width) → r ≡ planOf limit s o a b t
+unfolding planOf sizesPlan
+plan-sizes limit s o a b t head raw l r passed el eh er e =
+    let rle = stream-planned s o b l el in
+    e
+    ∙ (λ z. planBy (firstOf ((not (rle z) && ltb limit (eh z + er z + t), FileTooLarge) ∷ [])) (el z) (sizesBy limit (eh z) (er z) t (rle z) (s .width)))
+    ∙ sym (ap (λ (k : Check). planBy k (layoutOf s o b) (sizesBy limit (headLen s o b) (rawLen s o) t (wantsRle s o) (s .width))) (first-pass (checkRows s o a b) _ passed))
 
 -- ---- what a plan says
 
 isReady : Plan → Bool
-isReady (plan.Ready s) = true
+isReady (plan.Ready l s) = true
 isReady (plan.Refused why) = false
 
-sizesIn : Plan → Sizes → Sizes
-sizesIn (plan.Ready s) other = s
-sizesIn (plan.Refused why) other = other
+layoutOfPlan : Plan → Layout → Layout
+layoutOfPlan (plan.Ready l s) other = l
+layoutOfPlan (plan.Refused why) other = other
+
+sizesOfPlan : Plan → Sizes → Sizes
+sizesOfPlan (plan.Ready l s) other = s
+sizesOfPlan (plan.Refused why) other = other
 
 refusalIn : Plan → Refusal → Refusal
-refusalIn (plan.Ready s) other = other
+refusalIn (plan.Ready l s) other = other
 refusalIn (plan.Refused why) other = why
 
--- a ready plan: the rows 1 to 14 pass, and its sizes are the call's
-pub plan-ready : (i : Input) (s : Sizes) → planOf i ≡ plan.Ready s → (firstOf (planRows maxFile i) ≡ check.Passed) × (s ≡ sizesOf i)
-unfolding planOf isReady sizesIn
-plan-ready i s e = go (firstOf (planRows maxFile i)) refl e
-  where
-    go : (c : Check) → firstOf (planRows maxFile i) ≡ c → planBy c (sizesOf i) ≡ plan.Ready s → (firstOf (planRows maxFile i) ≡ check.Passed) × (s ≡ sizesOf i)
-    go check.Passed q f = (q, sym (ap (λ (p : Plan). sizesIn p s) f))
-    go (check.Refused why) q f = absurd (false≢true (ap isReady f))
+-- the plan of a call, by the table
+call-plan : (i : Input) → planOf maxFile (i .source) (i .options) (length (i .plane)) (length (i .palette)) (length (tailOf i)) ≡ planBy (firstOf (planRows maxFile i)) (layoutIn i) (sizesOf i)
+unfolding planOf planRows fileTooLarge plainSize
+call-plan i = refl
 
--- a refused plan: the first of them refuses so
-pub plan-refused : (i : Input) (why : Refusal) → planOf i ≡ plan.Refused why → firstOf (planRows maxFile i) ≡ check.Refused why
-unfolding planOf refusalIn
-plan-refused i why e = go (firstOf (planRows maxFile i)) refl e
-  where
-    go : (c : Check) → firstOf (planRows maxFile i) ≡ c → planBy c (sizesOf i) ≡ plan.Refused why → firstOf (planRows maxFile i) ≡ check.Refused why
-    go check.Passed q f = let z : plan.Ready (sizesOf i) ≡ plan.Refused why = f in cc
-    go (check.Refused other) q f = q ∙ ap check.Refused (ap (λ (p : Plan). refusalIn p why) f)
+module _ (i : Input) (p : Plan) (tail : ℕ) (et : tail ≡ length (tailOf i)) (e : p ≡ planOf maxFile (i .source) (i .options) (length (i .plane)) (length (i .palette)) tail) where
+  by-table : p ≡ planBy (firstOf (planRows maxFile i)) (layoutIn i) (sizesOf i)
+  by-table = e ∙ ap (planOf maxFile (i .source) (i .options) (length (i .plane)) (length (i .palette))) et ∙ call-plan i
 
--- ---- the size query
+  -- of a ready plan: the rows 1 to 14 pass, and layout and sizes are the call's
+  pub plan-ready : (l : Layout) (s : Sizes) → p ≡ plan.Ready l s → Planned i l s
+  unfolding isReady layoutOfPlan sizesOfPlan
+  plan-ready l s q = go (firstOf (planRows maxFile i)) refl (sym by-table ∙ q)
+    where
+      go : (c : Check) → firstOf (planRows maxFile i) ≡ c → planBy c (layoutIn i) (sizesOf i) ≡ plan.Ready l s → Planned i l s
+      go check.Passed r f = record { passed = r; layout-is = sym (ap (λ (x : Plan). layoutOfPlan x l) f); sizes-are = sym (ap (λ (x : Plan). sizesOfPlan x s) f) }
+      go (check.Refused why) r f = absurd (false≢true (ap isReady f))
 
--- of a ready plan
-pub sized-ready : (i : Input) (p : Plan) (s : Sizes) → p ≡ planOf i → p ≡ plan.Ready s → Sized i (sized.Bytes (s .bound))
-unfolding sizesOf
-sized-ready i p s e q =
-    let both = plan-ready i s (sym e ∙ q) in
-    record {
-      number = sym (ap checkNumber (both .0));
-      bytes = ap (λ (z : Sizes). z .bound) (both .1) ∙ sym (ap (λ (c : Check). boundFor c i) (both .0));
-    }
+  -- of a refused one: the first of them refuses so
+  pub plan-refused : (why : Refusal) → p ≡ plan.Refused why → firstOf (planRows maxFile i) ≡ check.Refused why
+  unfolding isReady refusalIn
+  plan-refused why q = go (firstOf (planRows maxFile i)) refl (sym by-table ∙ q)
+    where
+      go : (c : Check) → firstOf (planRows maxFile i) ≡ c → planBy c (layoutIn i) (sizesOf i) ≡ plan.Refused why → firstOf (planRows maxFile i) ≡ check.Refused why
+      go check.Passed r f = absurd (false≢true (sym (ap isReady f)))
+      go (check.Refused other) r f = r ∙ ap check.Refused (ap (λ (x : Plan). refusalIn x why) f)
 
--- of a refused plan
-pub sized-refused : (i : Input) (p : Plan) (why : Refusal) → p ≡ planOf i → p ≡ plan.Refused why → Sized i (sized.Refused why)
-sized-refused i p why e q =
-    let first = plan-refused i why (sym e ∙ q) in
-    record { number = sym (ap checkNumber first); bytes = sym (ap (λ (c : Check). boundFor c i) first) }
+  -- ---- the size query
+
+  pub sized-ready : (l : Layout) (s : Sizes) → p ≡ plan.Ready l s → Sized i (sized.Bytes (s .bound))
+  sized-ready l s q =
+      let k = plan-ready l s q in
+      record {
+        number = sym (ap checkNumber (k .passed));
+        bytes = plan-bound i s (k .sizes-are) ∙ sym (ap (λ (c : Check). boundFor c i) (k .passed));
+      }
+
+  pub sized-refused : (why : Refusal) → p ≡ plan.Refused why → Sized i (sized.Refused why)
+  sized-refused why q =
+      let first = plan-refused why q in
+      record { number = sym (ap checkNumber first); bytes = sym (ap (λ (c : Check). boundFor c i) first) }
+
+-- a stream is planned only where there is no profile
+pub stream-alone : (i : Input) (n : ℕ) → n ≡ length (tailOf i) → rlePlanned i ≡ true → n ≡ 0
+stream-alone i n e q = e ∙ no-tail i (planned-in i q)

@@ -9,7 +9,7 @@ use Rattle.leaves.specs.declared.error.Check.the-variants as check
 use Rattle.leaves.specs.Put.{put}
 use Rattle.leaves.specs.Refusals.{numberOf, checkNumber, firstOf, firstNumber}
 use Rattle.format.specs.Demand.{Demand3}
-use Rattle.format.specs.File.{modeOf, maxFile, fileSize, fileOf, boundOf, formatOf}
+use Rattle.format.specs.File.{maxFile, fileSize, fileOf, boundOf, formatOf}
 use Rattle.format.specs.Input.{Input}
 use Rattle.format.specs.Refusals.{planRows, writeRows}
 use Rattle.planner.specs.declared.encoder.Encoded.{Encoded}
@@ -41,7 +41,7 @@ bytesFor check.Passed i = fileSize maxFile i
 bytesFor (check.Refused why) i = 0
 
 abbrev pub formatFor : Check → Input → List EncodedBmpFormat
-formatFor check.Passed i = formatOf maxFile (modeOf i) i ∷ []
+formatFor check.Passed i = formatOf maxFile i ∷ []
 formatFor (check.Refused why) i = []
 
 abbrev pub laterFor : Check → Input → ℕ → List ℕ → List ℕ

@@ -1,19 +1,14 @@
--- A call's arguments as the record that the definitions take, and the code's modes as theirs.
+-- A call's arguments as the record that the definitions take.
 use Prim.Native.Nat.{ℕ}
 use mathlib.Core.List.{List}
 use Rattle.leaves.specs.declared.encoder.EncodeSource.{EncodeSource}
 use Rattle.leaves.specs.declared.options.EncodeOptions.{EncodeOptions}
 use Rattle.format.specs.Input.{Input}
-use Rattle.format.specs.File as file
-use Rattle.planner.specs.declared.sizes.Mode.{Mode}
-use Rattle.planner.specs.declared.sizes.Mode.the-variants.{Masked, Calibrated, Profiled, Plain}
 
 abbrev pub called : EncodeSource → EncodeOptions → List ℕ → List ℕ → List ℕ → List ℕ → Input
 called source options plane palette icc linked =
     record { source = source; options = options; plane = plane; palette = palette; icc = icc; linked = linked }
 
-abbrev pub modeIs : Mode → file.Mode
-modeIs Masked = file.masked
-modeIs Calibrated = file.calibrated
-modeIs Profiled = file.profiled
-modeIs Plain = file.plain
+-- the same once the profile is chosen: whichever of the two is meant, it is this one
+abbrev pub chosen : EncodeSource → EncodeOptions → List ℕ → List ℕ → List ℕ → Input
+chosen source options plane palette profile = called source options plane palette profile profile

@@ -1,102 +1,125 @@
 -- What the planner's own functions answer. Their contracts cite these; the promises of the two calls (Answers) do not.
 use Prim.Native.Nat.{ℕ, _+_, _-_, _*_, min, max}
-use mathlib.Core.Bool.{Bool, not, cond, _&&_}
-use mathlib.Core.List.{List, [], _∷_}
+use mathlib.Core.Path.{_≡_}
+use mathlib.Core.Bool.{Bool, true, not, cond, _&&_}
+use mathlib.Core.List.{List, [], _∷_, _++_}
 use lib.Dec.{ltb, leb}
-use Rattle.leaves.specs.declared.encoder.EncodedBmpFormat.{EncodedBmpFormat}
-use Rattle.leaves.specs.declared.encoder.EncodedBmpFormat.the-variants.{Bitfields, AlphaBitfields}
+use lib.ListN.{length}
+use Rattle.leaves.specs.declared.encoder.EncodeSource.{EncodeSource}
 use Rattle.leaves.specs.declared.error.Check.{Check}
 use Rattle.leaves.specs.declared.error.Check.the-variants as check
 use Rattle.leaves.specs.declared.error.Refusal.the-variants.{FileTooLarge, StreamOverBudget}
-use Rattle.leaves.specs.declared.image.BmpPixelFormat.{BmpPixelFormat}
-use Rattle.leaves.specs.declared.image.BmpPixelFormat.the-variants as source
-use Rattle.leaves.specs.Formats.{plainToken}
-use Rattle.leaves.specs.Masks.{hasAlphaMask, maskCompression}
+use Rattle.leaves.specs.declared.options.EncodeOptions.{EncodeOptions}
+use Rattle.leaves.specs.Formats.{isRgb565}
+use Rattle.leaves.specs.Lists.{cat}
 use Rattle.leaves.specs.Refusals.{firstOf}
 use Rattle.leaves.specs.Sizes.{clrUsed}
-use Rattle.rows.specs.declared.rle.Rle.{Rle}
-use Rattle.rows.specs.declared.rle.Rle.the-variants.{Rle8, Rle4}
-use Rattle.format.specs.File.{Mode, masked, calibrated, profiled, plain, modeOf, depthIn, isRgb565, headerSize, storedHeight, imageSize, pelsPerMeter, headBytes, rawBytes, rlePlanned, maxFile, budget, fileSize, plainSize, boundOf, formatOf}
-use Rattle.format.specs.Headers.{infoHeader}
+use Rattle.format.specs.declared.layout.Layout.{Layout}
+use Rattle.format.specs.declared.layout.Mode.{Mode}
+use Rattle.format.specs.declared.layout.Mode.the-variants.{Masked, Calibrated, Profiled, Plain}
+use Rattle.format.specs.File.{rawBytes, headBytes, tailOf, rlePlanned, streamOf, maxFile, streamUsed, fileSize, formatOf, pelsPerMeter, tableEntry}
+use Rattle.format.specs.Headers.{fileHeader, infoHeader}
 use Rattle.format.specs.Input.{Input}
-use Rattle.format.specs.Refusals.{streamOverBudget, planRows}
+use Rattle.format.specs.Layout.{isStream, maskTail, headRest, headLen, rawLen, wantsRle, layoutOf}
+use Rattle.format.specs.Refusals.{streamOverBudget, checkRows, planRows}
+use Rattle.rows.specs.declared.rle.Rle.{Rle}
+use Rattle.format.specs.declared.layout.Coding.the-variants.{Stream}
 use Rattle.planner.specs.declared.encoder.Encoded.{Encoded}
 use Rattle.planner.specs.declared.encoder.Encoded.the-variants as encoded
+use Rattle.planner.specs.declared.heads.FirstFields.{FirstFields}
 use Rattle.planner.specs.declared.plan.Plan.{Plan}
 use Rattle.planner.specs.declared.plan.Plan.the-variants.{Ready, Refused}
 use Rattle.planner.specs.declared.plan.Sizes.{Sizes}
 
--- the byte counts of a call
-unfoldable pub sizesOf : Input → Sizes
-sizesOf i =
+-- ---- the plan
+
+-- the byte counts of a file of at most `limit` bytes: of head, raw bytes, the profile's bytes, whether RLE is planned, and the width
+unfoldable pub sizesBy : ℕ → ℕ → ℕ → ℕ → Bool → ℕ → Sizes
+sizesBy limit head raw tail rle width =
     record {
-      head = headBytes i;
-      raw = rawBytes i;
-      file = plainSize i;
-      «file_fits» = leb (plainSize i) maxFile;
-      rle = rlePlanned i;
-      «rle_budget» = budget maxFile i;
-      bound = boundOf maxFile i;
-    }
-
--- the plan: the sizes, or the first of 1 to 14
-abbrev pub planBy : Check → Sizes → Plan
-planBy check.Passed sizes = Ready sizes
-planBy (check.Refused why) sizes = Refused why
-
-unfoldable pub planOf : Input → Plan
-planOf i = planBy (firstOf (planRows maxFile i)) (sizesOf i)
-
--- the coding of a stream; only Pal8 and Indexed4 have one
-abbrev pub rleOf : BmpPixelFormat → Rle
-rleOf source.Rgba = Rle8
-rleOf source.Rgb24 = Rle8
-rleOf source.Bgra = Rle8
-rleOf source.Bgr24 = Rle8
-rleOf source.Rgb555 = Rle8
-rleOf source.Rgb565 = Rle8
-rleOf source.Pal8 = Rle8
-rleOf source.Indexed4 = Rle4
-rleOf source.Indexed2 = Rle8
-rleOf source.Indexed1 = Rle8
-
--- compression and format of a file of stored rows
-abbrev pub rowsCompression : Mode → Input → ℕ
-rowsCompression masked i = maskCompression (i .options .bitfields .masks)
-rowsCompression calibrated i = cond (isRgb565 (i .source .format)) 3 0
-rowsCompression profiled i = cond (isRgb565 (i .source .format)) 3 0
-rowsCompression plain i = cond (isRgb565 (i .source .format)) 3 0
-
-abbrev pub rowsFormat : Mode → Input → EncodedBmpFormat
-rowsFormat masked i = cond (hasAlphaMask (i .options .bitfields .masks)) AlphaBitfields Bitfields
-rowsFormat calibrated i = plainToken (i .source .format)
-rowsFormat profiled i = plainToken (i .source .format)
-rowsFormat plain i = plainToken (i .source .format)
-
--- the plan of numbers: head, raw bytes, the tail's bytes, whether RLE is planned, and the width
-unfoldable pub sizesPlan : ℕ → ℕ → ℕ → Bool → ℕ → Plan
-sizesPlan head raw tail rle width =
-    cond (not rle && ltb maxFile (head + raw + tail)) (Refused FileTooLarge)
-    (Ready
-    (record {
       head = head;
       raw = raw;
       file = head + raw + tail;
-      «file_fits» = leb (head + raw + tail) maxFile;
-      rle = rle;
-      «rle_budget» = min raw (maxFile + 1 - head);
-      bound = cond rle (head + max (min raw (maxFile + 1 - head) + 2 * width + 2) (cond (leb (head + raw + tail) maxFile) raw 0)) (head + raw + tail);
-    }))
+      «file_fits» = leb (head + raw + tail) limit;
+      «rle_budget» = min raw (limit + 1 - head);
+      bound = cond rle (head + max (min raw (limit + 1 - head) + 2 * width + 2) (cond (leb (head + raw + tail) limit) raw 0)) (head + raw + tail);
+    }
 
--- the first 40 bytes of the info header, of a table of so many entries, a compression and raw bytes
-unfoldable pub infoOf : Input → ℕ → ℕ → ℕ → List ℕ
-infoOf i entries compression pixelBytes =
-    infoHeader (headerSize (modeOf i) (i .source .format)) (i .source .width) (storedHeight i) (depthIn (modeOf i) i) compression (imageSize i pixelBytes)
-    pelsPerMeter pelsPerMeter (clrUsed (depthIn (modeOf i) i) entries)
+-- layout and sizes, or the cause
+abbrev pub planBy : Check → Layout → Sizes → Plan
+planBy check.Passed layout sizes = Ready layout sizes
+planBy (check.Refused why) layout sizes = Refused why
 
--- the same as one answer, of a check
+-- 14 decides
+unfoldable pub sizesPlan : ℕ → Layout → ℕ → ℕ → ℕ → ℕ → Plan
+sizesPlan limit layout head raw tail width =
+    planBy (firstOf ((not (isStream (layout .coding)) && ltb limit (head + raw + tail), FileTooLarge) ∷ [])) layout (sizesBy limit head raw tail (isStream (layout .coding)) width)
+
+-- the first of 1 to 14 decides: of a plane, a palette and a profile of so many bytes
+unfoldable pub planOf : ℕ → EncodeSource → EncodeOptions → ℕ → ℕ → ℕ → Plan
+planOf limit s o planeBytes paletteBytes profileBytes =
+    planBy (firstOf (checkRows s o planeBytes paletteBytes ++ ((not (wantsRle s o) && ltb limit (headLen s o paletteBytes + rawLen s o + profileBytes), FileTooLarge) ∷ [])))
+    (layoutOf s o paletteBytes) (sizesBy limit (headLen s o paletteBytes) (rawLen s o) profileBytes (wantsRle s o) (s .width))
+
+-- a call's layout and sizes
+abbrev pub layoutIn : Input → Layout
+layoutIn i = layoutOf (i .source) (i .options) (length (i .palette))
+
+abbrev pub sizesOf : Input → Sizes
+sizesOf i = sizesBy maxFile (headBytes i) (rawBytes i) (length (tailOf i)) (rlePlanned i) (i .source .width)
+
+-- what is known of a call whose plan is ready
+pub record Planned (i : Input) (layout : Layout) (sizes : Sizes) : Type 0 where
+  pub passed : firstOf (planRows maxFile i) ≡ check.Passed
+  pub layout-is : layout ≡ layoutIn i
+  pub sizes-are : sizes ≡ sizesOf i
+
+-- and of one whose stream is under the budget: its coding and its length
+pub record Streamed (i : Input) (layout : Layout) (sizes : Sizes) (rle : Rle) (len : ℕ) : Type 0 where
+  pub planned : Planned i layout sizes
+  pub coded : layout .coding ≡ Stream rle
+  pub used : streamUsed maxFile i ≡ true
+  pub long : len ≡ length (streamOf i)
+
+-- ---- the head
+
+-- the file header and the first 40 bytes of the info header
+unfoldable pub firstFields : FirstFields → List ℕ
+firstFields h =
+    fileHeader (h .«file_size») (h .«pixel_offset»)
+    ++ infoHeader (h .«header_size») (h .width) (h .«stored_height») (h .«bit_count») (h .compression) (h .«image_size») (h .«x_pels») (h .«y_pels») (h .«clr_used»)
+
+-- bytes between them and the colour table
+abbrev pub restLen : Mode → EncodeSource → EncodeOptions → ℕ
+restLen Masked s o = length (maskTail (o .bitfields .masks))
+restLen Calibrated s o = 68
+restLen Profiled s o = 84
+restLen Plain s o = cond (isRgb565 (s .format)) 68 0
+
+-- all bytes before the pixels, of a layout, a head of so many bytes, compression, image size, file size, and the profile's size and place
+unfoldable pub headBy : Layout → EncodeSource → EncodeOptions → List ℕ → ℕ → ℕ → ℕ → ℕ → ℕ → ℕ → List ℕ
+headBy layout s o palette head compression imageSize fileSize profileSize profileData =
+    firstFields (record {
+      «file_size» = fileSize;
+      «pixel_offset» = head;
+      «header_size» = layout .«header_size»;
+      width = s .width;
+      «stored_height» = cond (o .«top_down») (4294967296 - s .height) (s .height);
+      «bit_count» = layout .«bit_count»;
+      compression = compression;
+      «image_size» = imageSize;
+      «x_pels» = pelsPerMeter;
+      «y_pels» = pelsPerMeter;
+      «clr_used» = clrUsed (layout .«bit_count») (layout .entries);
+    })
+    ++ headRest (layout .mode) s o profileSize profileData
+    ++ cat (tableEntry palette) (layout .entries)
+
+-- ---- the call
+
+-- the answer of a check
 abbrev pub encodedFor : Check → Input → Encoded
-encodedFor check.Passed i = encoded.File (formatOf maxFile (modeOf i) i) (fileSize maxFile i)
+encodedFor check.Passed i = encoded.File (formatOf maxFile i) (fileSize maxFile i)
 encodedFor (check.Refused why) i = encoded.Refused why
 
 -- 16, the last of the table
@@ -105,5 +128,5 @@ streamCheck i = firstOf ((streamOverBudget maxFile i, StreamOverBudget) ∷ [])
 
 -- the answer where a plan is not ready; of a ready one it is free
 abbrev pub refusalOf : Plan → Encoded
-refusalOf (Ready sizes) = encoded.Refused FileTooLarge
+refusalOf (Ready layout sizes) = encoded.Refused FileTooLarge
 refusalOf (Refused why) = encoded.Refused why

@@ -1,45 +1,32 @@
 // The writing call (the Rust's encode_source, Plan::write_head and Plan::write_into).
 ghost use mathlib.Core.Path.{_≡_};
 ghost use mathlib.Core.Bool.{true, false, cond, _||_};
-ghost use mathlib.Core.List.{[], _∷_};
-ghost use Prim.Native.Nat.{_+_, _-_, _≤_, _<_, _^_};
+ghost use Prim.Native.Nat.{_+_, _-_, _*_, _≤_, _<_};
 ghost use lib.Dec.{ltb, eqb};
-ghost use lib.ListN.{length, replicate};
+ghost use lib.ListN.{length};
+ghost use mathlib.Core.List.{[]};
 ghost use Rattle.leaves.specs.declared.error.Check.the-variants.{Passed};
 ghost use Rattle.leaves.specs.Put.{put};
-ghost use Rattle.leaves.specs.Refusals.{firstOf};
-ghost use Rattle.rows.specs.RleCodes.{isRle4, depthOf};
-ghost use Rattle.leaves.specs.Formats.{bitsPerPixel};
-ghost use Rattle.format.specs.Headers.{v4Fields};
-ghost use Rattle.format.specs.File.{modeOf, tailOf, longMasks, headRest, headBytes, rawBytes, streamOf, maxFile, streamUsed, headOf, fileOf, plainSize};
-ghost use Rattle.format.specs.Refusals.{planRows};
+ghost use Rattle.format.specs.File.{maxFile, streamUsed, fileOf, tailOf};
+ghost use Rattle.format.specs.Layout.{headRest};
 ghost use Rattle.planner.specs.Answers.{Written, laterFor};
-ghost use Rattle.planner.specs.Calls.{called};
-ghost use Rattle.planner.specs.Plans.{sizesOf, infoOf, streamCheck, encodedFor, refusalOf};
-use crate::heads::InfoHeader;
-use crate::heads::endpoint_bits;
+ghost use Rattle.planner.specs.Calls.{called, chosen};
+ghost use Rattle.planner.specs.Plans.{Planned, Streamed, restLen, headBy, streamCheck, encodedFor, refusalOf};
+use crate::heads::FirstFields;
+use crate::heads::put_dwords;
 use crate::heads::write_color_table;
-use crate::heads::write_file_header;
-use crate::heads::write_info_header;
+use crate::heads::write_first_fields;
 use crate::heads::write_masks;
 use crate::heads::write_v4_fields;
-use crate::heads::write_v5_fields;
+use crate::layout::long_masks;
+use crate::layout::mode_of;
+use crate::layout::tail;
 use crate::plan::Plan;
 use crate::plan::Sizes;
 use crate::plan::plan_for;
-use crate::sizes::Mode;
-use crate::sizes::bit_count;
-use crate::sizes::head_len;
-use crate::sizes::header_size;
-use crate::sizes::is_rgb565;
-use crate::sizes::long_masks;
-use crate::sizes::mode_of;
-use crate::sizes::rle_of;
-use crate::sizes::row_pack;
-use crate::sizes::rows_compression;
-use crate::sizes::rows_format;
-use crate::sizes::table_entries;
-use crate::sizes::tail;
+use format::layout::Coding;
+use format::layout::Layout;
+use format::layout::Mode;
 use leaves::buffer::put_slice;
 use leaves::encoder::EncodeSource;
 use leaves::encoder::EncodedBmpFormat;
@@ -87,178 +74,131 @@ fn profile_space(linked: bool) -> u32
     PROFILE_EMBEDDED
 }
 
-// The fields of a 108- or 124-byte header without endpoints and gammas.
-fn write_long_fields(src: EncodeSource, color_space: u32, buf: &mut [u8], at: usize)
-    requires { ⌜ at + 68 ≤ length (now buf) ⌝ }
-    ensures { λ _. ⌜ now (buf .exit) ≡ put (now (buf .entry)) at (v4Fields (longMasks (src .format)) «color_space» (replicate 9 0) (replicate 3 0)) ⌝ }
-{
-    let format = src.format;
-    let masks = long_masks(format);
-    write_v4_fields(buf, at, masks, color_space, [0; 9], [0; 3]);
-}
-
 // What stands between the first 40 bytes of the info header and the colour table.
-fn write_rest<'a>(
+fn write_rest(
+    mode: Mode,
     src: EncodeSource,
     options: EncodeOptions,
-    icc: &'a [u8],
-    linked_icc: &'a [u8],
+    profile_size: u32,
     profile_data: u32,
     buf: &mut [u8],
     at: usize,
 )
-    requires { ⌜ length (tailOf (modeOf (called src options [] [] (now icc) (now «linked_icc»))) (called src options [] [] (now icc) (now «linked_icc»))) < 2 ^ 32 ⌝ }
-    requires { ⌜ at + length (headRest (modeOf (called src options [] [] [] [])) (called src options [] [] [] []) 0) ≤ length (now buf) ⌝ }
-    ensures { λ _. ⌜ now (buf .exit) ≡ put (now (buf .entry)) at (headRest (modeOf (called src options [] [] [] [])) (called src options [] [] (now (icc .entry)) (now («linked_icc» .entry))) «profile_data») ⌝ }
+    requires { ⌜ at + restLen mode src options ≤ length (now buf) ⌝ }
+    ensures { λ _. ⌜ now (buf .exit) ≡ put (now (buf .entry)) at (headRest mode src options «profile_size» «profile_data») ⌝ }
 {
     let format = src.format;
-    let mode = mode_of(src, options);
+    let masks = long_masks(format);
     match mode {
         Mode::Masked => {
-            let masks = options.bitfields.masks;
-            write_masks(buf, at, masks);
+            let given = options.bitfields.masks;
+            write_masks(buf, at, given);
         }
         Mode::Calibrated => {
-            let masks = long_masks(format);
             let endpoints = options.calibrated_rgb.endpoints;
-            let bits = endpoint_bits(endpoints);
             let gamma = options.calibrated_rgb.gamma;
-            write_v4_fields(buf, at, masks, LCS_CALIBRATED_RGB, bits, gamma);
+            write_v4_fields(buf, at, masks, LCS_CALIBRATED_RGB, endpoints, gamma);
         }
         Mode::Profiled => {
-            let profile = tail(src, options, icc, linked_icc);
-            let profile_size = profile.len() as u32;
-            write_long_fields(src, profile_space(src.has_linked_icc), buf, at);
-            write_v5_fields(
-                buf,
-                at + 68,
-                options.rendering_intent,
-                profile_data,
-                profile_size,
-            );
+            let space = profile_space(src.has_linked_icc);
+            write_v4_fields(buf, at, masks, space, [0; 9], [0; 3]);
+            let fields = [options.rendering_intent, profile_data, profile_size, 0];
+            put_dwords(buf, at + 68, &fields);
         }
         Mode::Plain => {
-            if is_rgb565(format) {
-                write_long_fields(src, LCS_S_RGB, buf, at);
+            if format.is_rgb565() {
+                write_v4_fields(buf, at, masks, LCS_S_RGB, [0; 9], [0; 3]);
             }
         }
     }
 }
 
-// biSizeImage: 0 in a 40-byte header.
-fn image_size(header_size: u32, pixel_bytes: u32) -> u32
-    ensures { λ r. ⌜ r ≡ cond (eqb «header_size» 40) 0 «pixel_bytes» ⌝ }
+// biSizeImage of stored rows: 0 in a 40-byte header.
+fn image_size(header_size: u32, raw: u32) -> u32
+    ensures { λ r. ⌜ r ≡ cond (eqb «header_size» 40) 0 raw ⌝ }
 {
     if header_size == BITMAPINFOHEADER_SIZE {
         return 0;
     }
-    pixel_bytes
+    raw
 }
 
-// The first 40 bytes of the info header.
-fn write_info(
-    src: EncodeSource,
-    options: EncodeOptions,
-    entries: usize,
-    compression: u32,
-    pixel_bytes: u32,
-    buf: &mut [u8],
-    at: usize,
-)
-    requires { ⌜ 0 < src .height ⌝ }
-    requires { ⌜ at + 40 ≤ length (now buf) ⌝ }
-    ensures { λ _. ⌜ now (buf .exit) ≡ put (now (buf .entry)) at (infoOf (called src options [] [] [] []) entries compression «pixel_bytes») ⌝ }
-{
-    let format = src.format;
-    let mode = mode_of(src, options);
-    let header_size = header_size(mode, format);
-    let bit_count = bit_count(src, options);
-    write_info_header(
-        buf,
-        at,
-        InfoHeader {
-            header_size,
-            width: src.width,
-            stored_height: stored_height(src.height, options.top_down),
-            bit_count,
-            compression,
-            image_size: image_size(header_size, pixel_bytes),
-            x_pels: PELS_PER_METER,
-            y_pels: PELS_PER_METER,
-            clr_used: clr_used(bit_count, entries),
-        },
-    );
-}
-
-// Everything before the pixels.
-fn write_head<'a>(
+// Everything before the pixels: `head` bytes.
+fn write_head(
+    layout: Layout,
     src: EncodeSource,
     options: EncodeOptions,
     palette: &[u8],
-    icc: &'a [u8],
-    linked_icc: &'a [u8],
+    head: usize,
     compression: u32,
-    pixel_bytes: u32,
+    image_size: u32,
     file_size: u32,
+    profile_size: u32,
+    profile_data: u32,
     buf: &mut [u8],
     at: usize,
 )
     requires { ⌜ 0 < src .height ⌝ }
-    requires { ⌜ length (tailOf (modeOf (called src options [] [] (now icc) (now «linked_icc»))) (called src options [] [] (now icc) (now «linked_icc»))) < 2 ^ 32 ⌝ }
-    requires { ⌜ headBytes (called src options [] (now palette) [] []) + «pixel_bytes» ≤ 2 ^ 32 ⌝ }
-    requires { ⌜ at + headBytes (called src options [] (now palette) [] []) ≤ length (now buf) ⌝ }
-    ensures { λ _. ⌜ now (buf .exit) ≡ put (now (buf .entry)) at (headOf (called src options [] (now (palette .entry)) (now (icc .entry)) (now («linked_icc» .entry))) compression «pixel_bytes» «file_size») ⌝ }
+    requires { ⌜ layout .entries ≤ 256 ⌝ }
+    requires { ⌜ head ≤ maxFile ⌝ }
+    requires { ⌜ head ≡ 54 + length (headRest (layout .mode) src options 0 0) + 4 * layout .entries ⌝ }
+    requires { ⌜ at + head ≤ length (now buf) ⌝ }
+    ensures { λ _. ⌜ now (buf .exit) ≡ put (now (buf .entry)) at (headBy layout src options (now (palette .entry)) head compression «image_size» «file_size» «profile_size» «profile_data») ⌝ }
 {
-    let head = head_len(src, options, palette);
-    let entries = table_entries(src, options, palette);
-    write_file_header(buf, at, file_size, head as u32);
-    write_info(
-        src,
-        options,
-        entries,
-        compression,
-        pixel_bytes,
+    let mode = layout.mode;
+    let entries = layout.entries;
+    write_first_fields(
         buf,
-        at + 14,
+        at,
+        FirstFields {
+            file_size,
+            pixel_offset: head as u32,
+            header_size: layout.header_size,
+            width: src.width,
+            stored_height: stored_height(src.height, options.top_down),
+            bit_count: layout.bit_count,
+            compression,
+            image_size,
+            x_pels: PELS_PER_METER,
+            y_pels: PELS_PER_METER,
+            clr_used: clr_used(layout.bit_count, entries),
+        },
     );
-    let profile_data = (head - 14) as u32 + pixel_bytes;
-    write_rest(src, options, icc, linked_icc, profile_data, buf, at + 54);
+    write_rest(mode, src, options, profile_size, profile_data, buf, at + 54);
     write_color_table(buf, at + head - 4 * entries, palette, entries);
 }
 
-// The file with a stream, counted before: `len` is its length.
-fn write_stream<'a>(
+// The file with a stream, counted before: `len` is its length. Such a file has no profile.
+fn write_stream(
+    layout: Layout,
+    sizes: Sizes,
+    rle: Rle,
+    len: usize,
     src: EncodeSource,
     options: EncodeOptions,
     plane: &[u8],
     palette: &[u8],
-    icc: &'a [u8],
-    linked_icc: &'a [u8],
-    head: usize,
-    len: usize,
     buf: &mut [u8],
     at: usize,
 ) -> Encoded
-    requires { ⌜ firstOf (planRows maxFile (called src options (now plane) (now palette) (now icc) (now «linked_icc»))) ≡ Passed ⌝ }
-    requires { ⌜ streamUsed maxFile (called src options (now plane) (now palette) (now icc) (now «linked_icc»)) ≡ true ⌝ }
-    requires { ⌜ head ≡ headBytes (called src options (now plane) (now palette) (now icc) (now «linked_icc»)) ⌝ }
-    requires { ⌜ len ≡ length (streamOf (called src options (now plane) (now palette) (now icc) (now «linked_icc»))) ⌝ }
-    requires { ⌜ at + head + len ≤ length (now buf) ⌝ }
-    ensures { λ r. ⌜ r ≡ encodedFor Passed (called src options (now (plane .entry)) (now (palette .entry)) (now (icc .entry)) (now («linked_icc» .entry))) ⌝ }
-    ensures { λ _. ⌜ now (buf .exit) ≡ put (now (buf .entry)) at (fileOf maxFile (called src options (now (plane .entry)) (now (palette .entry)) (now (icc .entry)) (now («linked_icc» .entry)))) ⌝ }
+    requires { ⌜ Streamed (chosen src options (now plane) (now palette) []) layout sizes rle len ⌝ }
+    requires { ⌜ at + sizes .head + len ≤ length (now buf) ⌝ }
+    ensures { λ r. ⌜ r ≡ encodedFor Passed (chosen src options (now (plane .entry)) (now (palette .entry)) []) ⌝ }
+    ensures { λ _. ⌜ now (buf .exit) ≡ put (now (buf .entry)) at (fileOf maxFile (chosen src options (now (plane .entry)) (now (palette .entry)) [])) ⌝ }
 {
-    let format = src.format;
-    let rle = rle_of(format);
+    let head = sizes.head;
     let size = head + len;
     write_head(
+        layout,
         src,
         options,
         palette,
-        icc,
-        linked_icc,
+        head,
         rle.compression(),
         0,
         size as u32,
+        0,
+        0,
         buf,
         at,
     );
@@ -275,40 +215,44 @@ fn write_stream<'a>(
 }
 
 // The file of stored rows.
-fn write_rows<'a>(
+fn write_rows(
+    layout: Layout,
+    sizes: Sizes,
     src: EncodeSource,
     options: EncodeOptions,
     plane: &[u8],
     palette: &[u8],
-    icc: &'a [u8],
-    linked_icc: &'a [u8],
-    sizes: Sizes,
+    profile: &[u8],
     buf: &mut [u8],
     at: usize,
 ) -> Encoded
-    requires { ⌜ firstOf (planRows maxFile (called src options (now plane) (now palette) (now icc) (now «linked_icc»))) ≡ Passed ⌝ }
-    requires { ⌜ streamUsed maxFile (called src options (now plane) (now palette) (now icc) (now «linked_icc»)) ≡ false ⌝ }
-    requires { ⌜ sizes ≡ sizesOf (called src options (now plane) (now palette) (now icc) (now «linked_icc»)) ⌝ }
+    requires { ⌜ Planned (chosen src options (now plane) (now palette) (now profile)) layout sizes ⌝ }
+    requires { ⌜ streamUsed maxFile (chosen src options (now plane) (now palette) (now profile)) ≡ false ⌝ }
+    requires { ⌜ now profile ≡ tailOf (chosen src options (now plane) (now palette) (now profile)) ⌝ }
     requires { ⌜ sizes .file ≤ maxFile ⌝ }
     requires { ⌜ at + sizes .file ≤ length (now buf) ⌝ }
-    ensures { λ r. ⌜ r ≡ encodedFor Passed (called src options (now (plane .entry)) (now (palette .entry)) (now (icc .entry)) (now («linked_icc» .entry))) ⌝ }
-    ensures { λ _. ⌜ now (buf .exit) ≡ put (now (buf .entry)) at (fileOf maxFile (called src options (now (plane .entry)) (now (palette .entry)) (now (icc .entry)) (now («linked_icc» .entry)))) ⌝ }
+    ensures { λ r. ⌜ r ≡ encodedFor Passed (chosen src options (now (plane .entry)) (now (palette .entry)) (now (profile .entry))) ⌝ }
+    ensures { λ _. ⌜ now (buf .exit) ≡ put (now (buf .entry)) at (fileOf maxFile (chosen src options (now (plane .entry)) (now (palette .entry)) (now (profile .entry)))) ⌝ }
 {
-    let compression = rows_compression(src, options);
+    let head = sizes.head;
+    let raw = sizes.raw as u32;
+    let pixels = at + head;
+    let pack = layout.pack;
+    let written = layout.format;
     write_head(
+        layout,
         src,
         options,
         palette,
-        icc,
-        linked_icc,
-        compression,
-        sizes.raw as u32,
+        head,
+        layout.compression,
+        image_size(layout.header_size, raw),
         sizes.file as u32,
+        profile.len() as u32,
+        (head - 14) as u32 + raw,
         buf,
         at,
     );
-    let pixels = at + sizes.head;
-    let pack = row_pack(src, options);
     pack.pack_all(
         plane,
         src.stride,
@@ -318,33 +262,31 @@ fn write_rows<'a>(
         buf,
         pixels,
     );
-    let profile = tail(src, options, icc, linked_icc);
     put_slice(buf, pixels + sizes.raw, profile);
-    Encoded::File(rows_format(src, options), sizes.file)
+    Encoded::File(written, sizes.file)
 }
 
 // Writes a planned file into a buffer that has room for it: the stream, counted first within the budget, or
 // the stored rows, or 16.
-fn write_into<'a>(
+fn write_into(
+    layout: Layout,
+    sizes: Sizes,
     src: EncodeSource,
     options: EncodeOptions,
     plane: &[u8],
     palette: &[u8],
-    icc: &'a [u8],
-    linked_icc: &'a [u8],
-    sizes: Sizes,
+    profile: &[u8],
     buf: &mut [u8],
     at: usize,
 ) -> Encoded
-    requires { ⌜ firstOf (planRows maxFile (called src options (now plane) (now palette) (now icc) (now «linked_icc»))) ≡ Passed ⌝ }
-    requires { ⌜ sizes ≡ sizesOf (called src options (now plane) (now palette) (now icc) (now «linked_icc»)) ⌝ }
+    requires { ⌜ Planned (chosen src options (now plane) (now palette) (now profile)) layout sizes ⌝ }
+    requires { ⌜ now profile ≡ tailOf (chosen src options (now plane) (now palette) (now profile)) ⌝ }
     requires { ⌜ at + sizes .bound ≤ length (now buf) ⌝ }
-    ensures { λ r. ⌜ r ≡ encodedFor (streamCheck (called src options (now (plane .entry)) (now (palette .entry)) (now (icc .entry)) (now («linked_icc» .entry)))) (called src options (now (plane .entry)) (now (palette .entry)) (now (icc .entry)) (now («linked_icc» .entry))) ⌝ }
-    ensures { λ _. ⌜ now (buf .exit) ≡ laterFor (streamCheck (called src options (now (plane .entry)) (now (palette .entry)) (now (icc .entry)) (now («linked_icc» .entry)))) (called src options (now (plane .entry)) (now (palette .entry)) (now (icc .entry)) (now («linked_icc» .entry))) at (now (buf .entry)) ⌝ }
+    ensures { λ r. ⌜ r ≡ encodedFor (streamCheck (chosen src options (now (plane .entry)) (now (palette .entry)) (now (profile .entry)))) (chosen src options (now (plane .entry)) (now (palette .entry)) (now (profile .entry))) ⌝ }
+    ensures { λ _. ⌜ now (buf .exit) ≡ laterFor (streamCheck (chosen src options (now (plane .entry)) (now (palette .entry)) (now (profile .entry)))) (chosen src options (now (plane .entry)) (now (palette .entry)) (now (profile .entry))) at (now (buf .entry)) ⌝ }
 {
-    let format = src.format;
-    if sizes.rle {
-        let rle = rle_of(format);
+    let coding = layout.coding;
+    if let Coding::Stream(rle) = coding {
         let count = rle_len(
             rle,
             plane,
@@ -355,14 +297,14 @@ fn write_into<'a>(
         );
         if let StreamCount::Under(len) = count {
             return write_stream(
+                layout,
+                sizes,
+                rle,
+                len,
                 src,
                 options,
                 plane,
                 palette,
-                icc,
-                linked_icc,
-                sizes.head,
-                len,
                 buf,
                 at,
             );
@@ -372,13 +314,13 @@ fn write_into<'a>(
         }
     }
     write_rows(
+        layout,
+        sizes,
         src,
         options,
         plane,
         palette,
-        icc,
-        linked_icc,
-        sizes,
+        profile,
         buf,
         at,
     )
@@ -389,7 +331,7 @@ fn refusal(plan: Plan) -> Encoded
     ensures { λ r. ⌜ r ≡ refusalOf plan ⌝ }
 {
     match plan {
-        Plan::Ready(sizes) => Encoded::Refused(Refusal::FileTooLarge),
+        Plan::Ready(_, _) => Encoded::Refused(Refusal::FileTooLarge),
         Plan::Refused(why) => Encoded::Refused(why),
     }
 }
@@ -417,21 +359,30 @@ pub fn encode_into<'a>(
 ) -> Encoded
     ensures { λ r. ⌜ Written (called src options (now (plane .entry)) (now (palette .entry)) (now (icc .entry)) (now («linked_icc» .entry))) offset (now (out .entry)) (now (out .exit)) r ⌝ }
 {
-    let plan = plan_for(src, options, plane, palette, icc, linked_icc);
-    let Plan::Ready(sizes) = plan else {
+    let mode = mode_of(src, options);
+    let profile = tail(mode, src.has_linked_icc, icc, linked_icc);
+    let plan = plan_for(
+        mode,
+        src,
+        options,
+        plane.len(),
+        palette.len(),
+        profile.len(),
+    );
+    let Plan::Ready(layout, sizes) = plan else {
         return refusal(plan);
     };
     if too_short(out.len(), offset, sizes.bound) {
         return Encoded::Refused(Refusal::BufferTooShort);
     }
     write_into(
+        layout,
+        sizes,
         src,
         options,
         plane,
         palette,
-        icc,
-        linked_icc,
-        sizes,
+        profile,
         out,
         offset,
     )

@@ -1,19 +1,26 @@
 // The plan of a call, decided before the first byte is written (the Rust's Sizes and Plan), and the size
 // query.
 ghost use mathlib.Core.Path.{_≡_};
-ghost use mathlib.Core.Bool.{true, not};
-ghost use mathlib.Core.List.{[]};
-ghost use Prim.Native.Nat.{_+_, _≤_, _<_, _^_};
-ghost use lib.ListN.{length};
-ghost use Rattle.leaves.specs.Refusals.{checkNumber, firstOf, firstNumber};
-ghost use Rattle.format.specs.Refusals.{maskSource, givenMasksRows, checkRows};
+ghost use mathlib.Core.Bool.{true};
+ghost use mathlib.Core.List.{[], _∷_};
+ghost use Prim.Native.Nat.{_+_, _-_, _≤_, _<_, _^_, min, max};
+ghost use lib.Dec.{leb};
+ghost use Rattle.leaves.specs.declared.error.Refusal.the-variants.{MaskSource};
+ghost use Rattle.leaves.specs.Formats.{maskSource};
+ghost use Rattle.leaves.specs.Refusals.{firstOf};
+ghost use Rattle.format.specs.File.{maxFile};
+ghost use Rattle.format.specs.Layout.{modeOf, wantsRle, isStream};
+ghost use Rattle.format.specs.Refusals.{givenMasksRows, checkRows};
 ghost use Rattle.planner.specs.Answers.{Sized};
 ghost use Rattle.planner.specs.Calls.{called};
 ghost use Rattle.planner.specs.Plans.{planOf, sizesPlan};
-use crate::sizes::bit_count;
-use crate::sizes::head_len;
-use crate::sizes::rle_planned;
-use crate::sizes::tail;
+use crate::layout::head_len;
+use crate::layout::layout_of;
+use crate::layout::mode_of;
+use crate::layout::tail;
+use format::layout::Coding;
+use format::layout::Layout;
+use format::layout::Mode;
 use leaves::bitfields::validate;
 use leaves::checks::check_dimensions;
 use leaves::checks::check_modes;
@@ -39,8 +46,7 @@ pub struct Sizes {
     // The file of stored rows.
     pub file: usize,
     pub file_fits: bool,
-    // Whether a stream is tried, and the length that it must stay below.
-    pub rle: bool,
+    // The length that a stream must stay below.
     pub rle_budget: usize,
     // Bytes that a writing call asks for.
     pub bound: usize,
@@ -48,7 +54,7 @@ pub struct Sizes {
 
 // What a call will write, decided before the first byte is written; or why it writes nothing.
 pub enum Plan {
-    Ready(Sizes),
+    Ready(Layout, Sizes),
     Refused(Refusal),
 }
 
@@ -58,136 +64,164 @@ pub enum SizeBound {
     Refused(Refusal),
 }
 
-// Whether 11 lets the source pass.
-fn is_mask_source(format: BmpPixelFormat) -> bool
-    ensures { λ r. ⌜ r ≡ not (maskSource format) ⌝ }
+// 11.
+fn check_source(format: BmpPixelFormat) -> Check
+    ensures { λ r. ⌜ r ≡ firstOf ((maskSource format, MaskSource) ∷ []) ⌝ }
 {
-    match format {
-        BmpPixelFormat::Rgba => true,
-        BmpPixelFormat::Rgb24 => true,
-        BmpPixelFormat::Bgra => true,
-        BmpPixelFormat::Bgr24 => true,
-        BmpPixelFormat::Rgb555 => false,
-        BmpPixelFormat::Rgb565 => false,
-        BmpPixelFormat::Pal8 => false,
-        BmpPixelFormat::Indexed4 => false,
-        BmpPixelFormat::Indexed2 => false,
-        BmpPixelFormat::Indexed1 => false,
+    if format.takes_masks() {
+        return Check::Passed;
     }
+    Check::Refused(Refusal::MaskSource)
 }
 
 // 6 to 11.
 fn check_masks(src: EncodeSource, options: EncodeOptions) -> Check
-    ensures { λ r. ⌜ r ≡ firstOf (givenMasksRows (called src options [] [] [] [])) ⌝ }
+    ensures { λ r. ⌜ r ≡ firstOf (givenMasksRows src options) ⌝ }
 {
     let format = src.format;
-    if !options.has_bitfields {
-        return Check::Passed;
-    }
-    let masks = options.bitfields.masks;
-    let check = validate(options.bitfields.bpp, masks);
-    if let Check::Refused(why) = check {
-        return Check::Refused(why);
-    }
-    if !is_mask_source(format) {
-        return Check::Refused(Refusal::MaskSource);
+    if options.has_bitfields {
+        let masks = options.bitfields.masks;
+        let check = validate(options.bitfields.bpp, masks);
+        return check.or(check_source(format));
     }
     Check::Passed
 }
 
-// 1 to 13.
-fn checks(src: EncodeSource, options: EncodeOptions, plane: &[u8], palette: &[u8]) -> Check
-    ensures { λ r. ⌜ r ≡ firstOf (checkRows (called src options (now (plane .entry)) (now (palette .entry)) [] [])) ⌝ }
+// 1 to 13, of a plane and a palette of so many bytes.
+fn checks(
+    src: EncodeSource,
+    options: EncodeOptions,
+    plane_bytes: usize,
+    palette_bytes: usize,
+) -> Check
+    ensures { λ r. ⌜ r ≡ firstOf (checkRows src options «plane_bytes» «palette_bytes») ⌝ }
 {
     let format = src.format;
-    let dimensions = check_dimensions(src.width, src.height);
-    if let Check::Refused(why) = dimensions {
-        return Check::Refused(why);
-    }
-    let colours = check_palette(format.is_indexed(), src.has_palette, palette.len());
-    if let Check::Refused(why) = colours {
-        return Check::Refused(why);
-    }
     let profile = profile_mode(src.has_linked_icc, src.has_icc, options.embed_icc);
+    let pixel = format.bytes_per_pixel();
+    let dimensions = check_dimensions(src.width, src.height);
+    let palette = check_palette(format.is_indexed(), src.has_palette, palette_bytes);
     let modes = check_modes(options.has_bitfields, options.has_calibrated_rgb, profile);
-    if let Check::Refused(why) = modes {
-        return Check::Refused(why);
-    }
     let masks = check_masks(src, options);
-    if let Check::Refused(why) = masks {
-        return Check::Refused(why);
-    }
-    check_plane(
-        src.width,
-        src.height,
-        src.stride,
-        format.bytes_per_pixel(),
-        plane.len(),
-    )
+    let plane = check_plane(src.width, src.height, src.stride, pixel, plane_bytes);
+    dimensions.or(palette).or(modes).or(masks).or(plane)
 }
 
-impl Sizes {
-    // The sizes of a file, or 14. A profile is compared before it is added: no sum can wrap.
-    fn of(head: usize, raw: usize, tail: usize, rle: bool, width: u32) -> Plan
-        requires { ⌜ head ≤ 1162 ⌝ }
-        requires { ⌜ raw + 2 ^ 33 ≤ 2 ^ 64 ⌝ }
-        requires { ⌜ (rle ≡ true → tail ≡ 0) ⌝ }
-        ensures { λ r. ⌜ r ≡ sizesPlan head raw tail rle width ⌝ }
-    {
-        let body = head + raw;
-        let file_fits = body <= MAX_FILE && tail <= MAX_FILE - body;
-        let room = MAX_FILE + 1 - head;
-        let rle_budget = if raw < room { raw } else { room };
-        if rle {
-            let probe = rle_budget + 2 * width as usize + 2;
-            let fallback = if file_fits { raw } else { 0 };
-            let pixels = if probe < fallback { fallback } else { probe };
-            return Plan::Ready(Sizes {
+fn is_stream(coding: Coding) -> bool
+    ensures { λ r. ⌜ r ≡ isStream coding ⌝ }
+{
+    match coding {
+        Coding::Stream(_) => true,
+        Coding::Nothing => false,
+    }
+}
+
+// Whether a file is no longer than the limit. A profile is compared before it is added: no sum can wrap.
+fn fits(body: usize, profile_bytes: usize, limit: usize) -> bool
+    ensures { λ r. ⌜ r ≡ leb (body + «profile_bytes») limit ⌝ }
+{
+    if body <= limit {
+        return profile_bytes <= limit - body;
+    }
+    false
+}
+
+// The length that a stream must stay below.
+fn budget(head: usize, raw: usize, limit: usize) -> usize
+    requires { ⌜ limit ≤ maxFile ⌝ }
+    ensures { λ r. ⌜ r ≡ min raw (limit + 1 - head) ⌝ }
+{
+    if limit < head {
+        return 0;
+    }
+    let room = limit + 1 - head;
+    if raw < room {
+        return raw;
+    }
+    room
+}
+
+fn larger(a: usize, b: usize) -> usize
+    ensures { λ r. ⌜ r ≡ max a b ⌝ }
+{
+    if a < b {
+        return b;
+    }
+    a
+}
+
+// The sizes of a file of at most `limit` bytes, or 14.
+fn sizes_for(
+    layout: Layout,
+    head: usize,
+    raw: usize,
+    profile_bytes: usize,
+    width: u32,
+    limit: usize,
+) -> Plan
+    requires { ⌜ limit ≤ maxFile ⌝ }
+    requires { ⌜ head ≤ 1162 ⌝ }
+    requires { ⌜ raw + 2 ^ 33 ≤ 2 ^ 64 ⌝ }
+    requires { ⌜ (isStream (layout .coding) ≡ true → «profile_bytes» ≡ 0) ⌝ }
+    ensures { λ r. ⌜ r ≡ sizesPlan limit layout head raw «profile_bytes» width ⌝ }
+{
+    let coding = layout.coding;
+    let body = head + raw;
+    let file_fits = fits(body, profile_bytes, limit);
+    let rle_budget = budget(head, raw, limit);
+    if is_stream(coding) {
+        let fallback = if file_fits { raw } else { 0 };
+        let bound = head + larger(rle_budget + 2 * width as usize + 2, fallback);
+        return Plan::Ready(
+            layout,
+            Sizes {
                 head,
                 raw,
                 file: body,
                 file_fits,
-                rle,
                 rle_budget,
-                bound: head + pixels,
-            });
-        }
-        if !file_fits {
-            return Plan::Refused(Refusal::FileTooLarge);
-        }
-        let file = body + tail;
-        Plan::Ready(Sizes {
-            head,
-            raw,
-            file,
-            file_fits,
-            rle,
-            rle_budget,
-            bound: file,
-        })
+                bound,
+            },
+        );
     }
+    if file_fits {
+        let file = body + profile_bytes;
+        return Plan::Ready(
+            layout,
+            Sizes {
+                head,
+                raw,
+                file,
+                file_fits,
+                rle_budget,
+                bound: file,
+            },
+        );
+    }
+    Plan::Refused(Refusal::FileTooLarge)
 }
 
-// 1 to 14, and the sizes of what they let pass.
-pub fn plan_for<'a>(
+// 1 to 14, and layout and sizes of what they let pass.
+pub fn plan_for(
+    mode: Mode,
     src: EncodeSource,
     options: EncodeOptions,
-    plane: &[u8],
-    palette: &[u8],
-    icc: &'a [u8],
-    linked_icc: &'a [u8],
+    plane_bytes: usize,
+    palette_bytes: usize,
+    profile_bytes: usize,
 ) -> Plan
-    ensures { λ r. ⌜ r ≡ planOf (called src options (now (plane .entry)) (now (palette .entry)) (now (icc .entry)) (now («linked_icc» .entry))) ⌝ }
+    requires { ⌜ mode ≡ modeOf src options ⌝ }
+    requires { ⌜ (wantsRle src options ≡ true → «profile_bytes» ≡ 0) ⌝ }
+    ensures { λ r. ⌜ r ≡ planOf maxFile src options «plane_bytes» «palette_bytes» «profile_bytes» ⌝ }
 {
-    let check = checks(src, options, plane, palette);
+    let check = checks(src, options, plane_bytes, palette_bytes);
     if let Check::Refused(why) = check {
         return Plan::Refused(why);
     }
-    let head = head_len(src, options, palette);
-    let raw = row_stride(src.width, bit_count(src, options)) * src.height as usize;
-    let profile = tail(src, options, icc, linked_icc);
-    let rle = rle_planned(src, options);
-    Sizes::of(head, raw, profile.len(), rle, src.width)
+    let layout = layout_of(mode, src, options, palette_bytes);
+    let head = head_len(layout, src, options, palette_bytes);
+    let raw = row_stride(src.width, layout.bit_count) * src.height as usize;
+    sizes_for(layout, head, raw, profile_bytes, src.width, MAX_FILE)
 }
 
 // How many bytes a writing call asks for.
@@ -201,9 +235,18 @@ pub fn encoded_size_bound<'a>(
 ) -> SizeBound
     ensures { λ r. ⌜ Sized (called src options (now (plane .entry)) (now (palette .entry)) (now (icc .entry)) (now («linked_icc» .entry))) r ⌝ }
 {
-    let plan = plan_for(src, options, plane, palette, icc, linked_icc);
+    let mode = mode_of(src, options);
+    let profile = tail(mode, src.has_linked_icc, icc, linked_icc);
+    let plan = plan_for(
+        mode,
+        src,
+        options,
+        plane.len(),
+        palette.len(),
+        profile.len(),
+    );
     match plan {
-        Plan::Ready(sizes) => SizeBound::Bytes(sizes.bound),
+        Plan::Ready(_, sizes) => SizeBound::Bytes(sizes.bound),
         Plan::Refused(why) => SizeBound::Refused(why),
     }
 }

@@ -1,28 +1,35 @@
-use mathlib.Core.Path.{refl, sym, _∙_}
+use mathlib.Core.Path.{refl, sym, ap, subst, _∙_}
 use mathlib.Core.Bool.{true, false}
 use mathlib.Core.Logic.{⊎-elim}
+use mathlib.Core.List.{List, []}
+use Prim.Native.Nat.{ℕ}
 use native.Mathlib.Omega.{arith}
-use borrow.Author.Needs.{needs}
-use Rattle.planner.specs.Calls.{called}
+use borrow.Author.Tests.{not-true, not-false}
+use Rattle.leaves.specs.declared.error.Check.the-variants.{Passed}
+use Rattle.leaves.specs.Put.{put}
+use Rattle.format.specs.File.{maxFile, fileOf}
 use Rattle.format.proofs.Acceptance.{plan-passed}
-use Rattle.format.proofs.Modes.{planned-in}
-use Rattle.planner.proofs.StreamWrites.{planned-inside}
-use Rattle.planner.proofs.WriteChoice.{sizes-head, sizes-rle, sizes-budget, budget-fits, stream-goes, RowsGo, rows-unplanned, rows-planned, stream-over, answer-by, later-by}
+use Rattle.format.proofs.Modes.{tail-empty, used-in}
+use Rattle.planner.specs.Calls.{chosen}
+use Rattle.planner.specs.Plans.{Streamed, encodedFor}
+use Rattle.planner.proofs.FileWrites.{stream-inside}
+use Rattle.planner.proofs.WriteChoice.{budget-fits, RowsFit, rows-alone, stream-under, rows-instead, stream-over, answer-by, later-by}
+use borrow.Author.Needs.{needs}
 use Rattle.planner.proofs.encoder.write_into.Statement.{statement}
 use Rattle.planner.proofs.encoder.write_into.Tie as tie
 
-rle-of-requires : tie.Need-rle-of-requires
-rle-of-requires c κs = search needs
+enum-known-coding : tie.Need-enum-known-coding
+enum-known-coding c = search needs
 
 rle-len-requires : tie.Need-rle-len-requires
 rle-len-requires c κs =
     let s = c .before .before .before .before .before .before .before in
     let a = s .args in
-    let i = called (a .src) (a .options) (a .plane .now) (a .palette .now) (a .icc .now) (a .linked-icc .now) in
-    let k = plan-passed i (s .pre .0) .0 in
-    let e = s .pre .1 .0 in
-    let p = planned-in i (sym (sizes-rle i (a .sizes) e) ∙ c .before .if1 .taken) in
-    (planned-inside i p (k .rows-inside), (k .plane-long, omega (arith, sizes-budget i (a .sizes) e, budget-fits i)))
+    let i = chosen (a .src) (a .options) (a .plane .now) (a .palette .now) (a .profile .now) in
+    let p = s .pre .0 in
+    let k = c .before .coding .given in
+    let checked = plan-passed i (p .passed) .0 in
+    (stream-inside i (a .layout) (k .0 .0) (p .layout-is) (k .1) (checked .rows-inside), (checked .plane-long, budget-fits i (a .sizes) (p .sizes-are)))
 
 enum-known-count : tie.Need-enum-known-count
 enum-known-count c = search needs
@@ -31,23 +38,14 @@ write-stream-requires : tie.Need-write-stream-requires
 write-stream-requires c κs =
     let s = c .before .before .before .before .before .before .before .before .before .before .before .before in
     let a = s .args in
-    let i = called (a .src) (a .options) (a .plane .now) (a .palette .now) (a .icc .now) (a .linked-icc .now) in
-    let e = s .pre .1 .0 in
-    let r = c .before .before .before .before .before .rle-of in
+    let i = chosen (a .src) (a .options) (a .plane .now) (a .palette .now) (a .profile .now) in
+    let p = s .pre .0 in
+    let k = c .before .before .before .before .before .before .coding .given in
     let n = c .before .before .before .before .rle-len in
-    let g = stream-goes i (a .sizes) (r .result) (n .result) e (c .before .before .before .before .before .before .if1 .taken) (r .ensures) (n .ensures) (c .before .before .count .given .0 .0) (c .before .before .count .given .1) in (
-      s .pre .0,
-      (
-        g .used,
-        (
-          sizes-head i (a .sizes) e,
-          (
-            g .long,
-            omega (arith, g .room, s .pre .1 .1),
-          ),
-        ),
-      ),
-    )
+    let u = c .before .before .count .given in
+    let g = stream-under i (a .layout) (a .sizes) p (k .0 .0) (n .result) (k .1) (n .ensures) (u .0 .0) (u .1) in
+    let none = s .pre .1 .0 ∙ tail-empty i (used-in maxFile i (g .0 .used) .planned) in
+    (subst (λ (x : List ℕ). Streamed (chosen (a .src) (a .options) (a .plane .now) (a .palette .now) x) (a .layout) (a .sizes) (k .0 .0) (u .0 .0)) none (g .0), omega (arith, g .1 .1, s .pre .1 .1))
 
 same-length : tie.Need-same-length
 same-length c = search needs
@@ -56,13 +54,18 @@ returns : tie.Need-returns
 returns c =
     let s = c .before .before .before .before .before .before .before .before .before .before .before .before .before .before .before in
     let a = s .args in
-    let i = called (a .src) (a .options) (a .plane .now) (a .palette .now) (a .icc .now) (a .linked-icc .now) in
-    let e = s .pre .1 .0 in
-    let r = c .before .before .before .before .before .before .before .before .rle-of in
+    let i = chosen (a .src) (a .options) (a .plane .now) (a .palette .now) (a .profile .now) in
+    let p = s .pre .0 in
+    let k = c .before .before .before .before .before .before .before .before .before .coding .given in
     let n = c .before .before .before .before .before .before .before .rle-len in
-    let w = c .before .before .write-stream in
-    let g = stream-goes i (a .sizes) (r .result) (n .result) e (c .before .before .before .before .before .before .before .before .before .if1 .taken) (r .ensures) (n .ensures) (c .before .before .before .before .before .count .given .0 .0) (c .before .before .before .before .before .count .given .1) in
-    (answer-by i false (g .over) (w .result) (w .ensures .0), later-by i false (g .over) (a .at) (a .buf .now) (w .last .1 .1 .1 .1 .1 .1 .1 .1 .0) (w .ensures .1))
+    let u = c .before .before .before .before .before .count .given in
+    let g = stream-under i (a .layout) (a .sizes) p (k .0 .0) (n .result) (k .1) (n .ensures) (u .0 .0) (u .1) in
+    let none = s .pre .1 .0 ∙ tail-empty i (used-in maxFile i (g .0 .used) .planned) in
+    let w = c .before .before .write-stream in (
+      answer-by i false (g .1 .0) (w .result) (w .ensures .0 ∙ ap (λ (x : List ℕ). encodedFor Passed (chosen (a .src) (a .options) (a .plane .now) (a .palette .now) x)) (sym none)),
+      later-by i false (g .1 .0) (a .at) (a .buf .now) (w .last .1 .1 .1 .1 .1 .1 .1 .1 .0)
+          (w .ensures .1 ∙ ap (λ (x : List ℕ). put (a .buf .now) (a .at) (fileOf maxFile (chosen (a .src) (a .options) (a .plane .now) (a .palette .now) x))) (sym none)),
+    )
 
 enum-told : tie.Need-enum-told
 enum-told c = search needs
@@ -71,44 +74,47 @@ returns-2 : tie.Need-returns-2
 returns-2 c =
     let s = c .before .before .before .before .before .before .before .before .before .before .before .before in
     let a = s .args in
-    let i = called (a .src) (a .options) (a .plane .now) (a .palette .now) (a .icc .now) (a .linked-icc .now) in
-    let e = s .pre .1 .0 in
-    let r = c .before .before .before .before .before .rle-of in
+    let i = chosen (a .src) (a .options) (a .plane .now) (a .palette .now) (a .profile .now) in
+    let p = s .pre .0 in
+    let k = c .before .before .before .before .before .before .coding .given in
     let n = c .before .before .before .before .rle-len in
-    let o = stream-over i (a .sizes) (r .result) (n .result) e (c .before .before .before .before .before .before .if1 .taken) (r .ensures) (n .ensures) (c .before .before .enum-told .given .1) (c .if2 .taken) in
+    let o = stream-over i (a .layout) (a .sizes) p (k .0 .0) (n .result) (k .1) (n .ensures) (c .before .before .enum-told .given .1) (not-true (a .sizes .«file_fits») (c .if1 .taken)) in
     (answer-by i true o _ refl, later-by i true o (a .at) (a .buf .now) (a .buf .now) refl)
+
+enum-told-2 : tie.Need-enum-told-2
+enum-told-2 c = search needs
 
 write-rows-requires : tie.Need-write-rows-requires
 write-rows-requires c κs =
-    let s = c .before .before .before .before .before .before .before in
+    let s = c .before .before .before .before .before .before in
     let a = s .args in
-    let i = called (a .src) (a .options) (a .plane .now) (a .palette .now) (a .icc .now) (a .linked-icc .now) in
-    let e = s .pre .1 .0 in
-    let g : RowsGo i (a .sizes) = ⊎-elim
-    (λ w. rows-planned i (a .sizes) (w .1 .result) (w .2 .result) e (w .0 .taken) (w .1 .ensures) (w .2 .ensures) (w .4 .given .1) (w .6 .left))
-    (λ w. rows-unplanned i (a .sizes) e (w .left) (plan-passed i (s .pre .0) .1)) (c .before .if1 .came) in
-    (s .pre .0, (g .unused, (e, (g .fits, omega (arith, g .room, s .pre .1 .1)))))
+    let i = chosen (a .src) (a .options) (a .plane .now) (a .palette .now) (a .profile .now) in
+    let p = s .pre .0 in
+    let g : RowsFit i (a .sizes) = ⊎-elim
+    (λ w. rows-instead i (a .layout) (a .sizes) p (w .1 .given .0 .0) (w .3 .result) (w .1 .given .1) (w .3 .ensures) (w .5 .given .1) (not-false (a .sizes .«file_fits») (w .7 .left)))
+    (λ w. rows-alone i (a .layout) (a .sizes) p (w .1 .given .1)) (c .before .match .came) in
+    (p, (g .unused, (s .pre .1 .0, (g .fits, omega (arith, g .room, s .pre .1 .1)))))
 
 same-length-2 : tie.Need-same-length-2
 same-length-2 c = search needs
 
 returns-3 : tie.Need-returns-3
 returns-3 c =
-    let s = c .before .before .before .before .before .before .before .before .before .before in
+    let s = c .before .before .before .before .before .before .before .before .before in
     let a = s .args in
-    let i = called (a .src) (a .options) (a .plane .now) (a .palette .now) (a .icc .now) (a .linked-icc .now) in
-    let e = s .pre .1 .0 in
-    let x = c .before .before .write-rows in
-    let g : RowsGo i (a .sizes) = ⊎-elim
-    (λ w. rows-planned i (a .sizes) (w .1 .result) (w .2 .result) e (w .0 .taken) (w .1 .ensures) (w .2 .ensures) (w .4 .given .1) (w .6 .left))
-    (λ w. rows-unplanned i (a .sizes) e (w .left) (plan-passed i (s .pre .0) .1)) (c .before .before .before .before .if1 .came) in
-    (answer-by i false (g .over) (x .result) (x .ensures .0), later-by i false (g .over) (a .at) (a .buf .now) (x .last .1 .1 .1 .1 .1 .1 .1 .0) (x .ensures .1))
+    let i = chosen (a .src) (a .options) (a .plane .now) (a .palette .now) (a .profile .now) in
+    let p = s .pre .0 in
+    let g : RowsFit i (a .sizes) = ⊎-elim
+    (λ w. rows-instead i (a .layout) (a .sizes) p (w .1 .given .0 .0) (w .3 .result) (w .1 .given .1) (w .3 .ensures) (w .5 .given .1) (not-false (a .sizes .«file_fits») (w .7 .left)))
+    (λ w. rows-alone i (a .layout) (a .sizes) p (w .1 .given .1)) (c .before .before .before .before .match .came) in
+    let w = c .before .before .write-rows in
+    (answer-by i false (g .over) (w .result) (w .ensures .0), later-by i false (g .over) (a .at) (a .buf .now) (w .last .1 .1 .1 .1 .1 .1 .1 .0) (w .ensures .1))
 
 pub write-into-spec : {M : Type 1} → statement M
 write-into-spec =
     tie.close
     (tie.spec
-    rle-of-requires
+    enum-known-coding
     rle-len-requires
     enum-known-count
     write-stream-requires
@@ -116,6 +122,7 @@ write-into-spec =
     returns
     enum-told
     returns-2
+    enum-told-2
     write-rows-requires
     same-length-2
     returns-3)

@@ -1,6 +1,6 @@
 use native.Mathlib.Omega.{arith}
-use borrow.Author.Needs.{needs}
 use Rattle.planner.proofs.HeadLaws.{v4-written}
+use borrow.Author.Needs.{needs}
 use Rattle.planner.proofs.heads.write_v4_fields.Statement.{statement}
 use Rattle.planner.proofs.heads.write_v4_fields.Tie as tie
 
@@ -16,6 +16,15 @@ add-put-u32 c = search needs
 put-u32-requires : tie.Need-put-u32-requires
 put-u32-requires c κs = search needs
 
+add-put-longs : tie.Need-add-put-longs
+add-put-longs c = search needs
+
+slice-aggregate-put-longs : tie.Need-slice-aggregate-put-longs
+slice-aggregate-put-longs c = search needs
+
+put-longs-requires : tie.Need-put-longs-requires
+put-longs-requires c κs = search needs
+
 add-put-dwords : tie.Need-add-put-dwords
 add-put-dwords c = search needs
 
@@ -25,27 +34,18 @@ slice-aggregate-put-dwords-2 c = search needs
 put-dwords-requires-2 : tie.Need-put-dwords-requires-2
 put-dwords-requires-2 c κs = search needs
 
-add-put-dwords-2 : tie.Need-add-put-dwords-2
-add-put-dwords-2 c = search needs
-
-slice-aggregate-put-dwords-3 : tie.Need-slice-aggregate-put-dwords-3
-slice-aggregate-put-dwords-3 c = search needs
-
-put-dwords-requires-3 : tie.Need-put-dwords-requires-3
-put-dwords-requires-3 c κs = search needs
-
 same-length : tie.Need-same-length
 same-length c = search needs
 
 returns : tie.Need-returns
 returns c =
-    let a = c .before .before .before .before .before .before .before .before .before .before .before .before .before .before .before .before .before .before .before .before .args in
-    let g = c .before .before .before .before .before .before .before .before .before .before .before .before .before .before .before .before .before .before .before .before .good in
+    let s = c .before .before .before .before .before .before .before .before .before .before .before .before .before .before .before .before .before .before .before .before in
+    let a = s .args in
     let d1 = c .before .before .before .before .before .before .before .before .before .before .before .before .before .before .before .before .put-dwords in
     let d2 = c .before .before .before .before .before .before .before .before .before .before .before .before .put-u32 in
-    let d3 = c .before .before .before .before .before .before .before .put-dwords2 in
-    let d4 = c .before .before .put-dwords3 in
-    v4-written (a .buf .now) (d1 .last .0) (d2 .last .0) (d3 .last .0) (d4 .last .0) (a .t3) (a .t5) (a .t6) (a .at) (a .color-space) (g .1 .1 .0 .1 .0 .1) (g .1 .1 .1 .1 .0 .1 .0 .1) (omega arith) (d1 .ensures) (d2 .ensures) (d3 .ensures) (d4 .ensures)
+    let d3 = c .before .before .before .before .before .before .before .put-longs in
+    let d4 = c .before .before .put-dwords2 in
+    v4-written (a .buf .now) (d1 .last .0) (d2 .last .0) (d3 .last .0) (d4 .last .0) (a .t3) (a .t5) (a .t6) (a .at) (a .color-space) (s .good .1 .1 .0 .1 .0 .1) (s .good .1 .1 .1 .1 .0 .1 .0 .1) (omega arith) (d1 .ensures) (d2 .ensures) (d3 .ensures) (d4 .ensures)
 
 pub write-v4-fields-spec : {M : Type 1} → statement M
 write-v4-fields-spec =
@@ -55,11 +55,11 @@ write-v4-fields-spec =
     put-dwords-requires
     add-put-u32
     put-u32-requires
+    add-put-longs
+    slice-aggregate-put-longs
+    put-longs-requires
     add-put-dwords
     slice-aggregate-put-dwords-2
     put-dwords-requires-2
-    add-put-dwords-2
-    slice-aggregate-put-dwords-3
-    put-dwords-requires-3
     same-length
     returns)

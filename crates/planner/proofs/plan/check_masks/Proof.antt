@@ -1,58 +1,38 @@
+use mathlib.Core.Path.{sym, _∙_}
+use mathlib.Core.Bool.{true}
+use mathlib.Core.List.{[], _∷_}
+use Rattle.leaves.specs.declared.error.Refusal.the-variants.{MaskSource}
+use Rattle.leaves.specs.Formats.{maskSource}
+use Rattle.leaves.specs.Masks.{bitfieldsRows}
+use Rattle.leaves.specs.Refusals.{firstOf}
+use Rattle.format.specs.Refusals.{givenMasksRows}
+use Rattle.leaves.proofs.FirstOf.{check-determined, first-next}
 use borrow.Author.Needs.{needs}
-use mathlib.Core.Bool.{true, false}
-use mathlib.Core.List.{[]}
-use Rattle.planner.specs.Calls.{called}
-use Rattle.planner.proofs.PlanLaws.{no-masks, masks-stop, masks-rest}
 use Rattle.planner.proofs.plan.check_masks.Statement.{statement}
 use Rattle.planner.proofs.plan.check_masks.Tie as tie
-
-returns : tie.Need-returns
-returns c =
-    let a = c .before .before .args in
-    let i = called (a .src) (a .options) [] [] [] [] in
-    no-masks i (c .if1 .taken)
 
 validate-requires : tie.Need-validate-requires
 validate-requires c κs = search needs
 
-enum-known-check : tie.Need-enum-known-check
-enum-known-check c = search needs
+check-source-requires : tie.Need-check-source-requires
+check-source-requires c κs = search needs
+
+or-requires : tie.Need-or-requires
+or-requires c κs = search needs
+
+returns : tie.Need-returns
+unfolding givenMasksRows
+returns c =
+    let a = c .before .before .before .before .before .args in
+    let v = c .before .before .validate in
+    let rows = bitfieldsRows (a .options .bitfields .bpp) (a .options .bitfields .masks) in
+    rw (c .before .before .before .before .if1 .taken)
+    (first-next rows ((maskSource (a .src .format), MaskSource) ∷ []) (v .result) (c .before .check-source .result) (c .or .result) (check-determined (v .result) (firstOf rows) (v .ensures)) (c .before .check-source .ensures) (c .or .ensures))
 
 returns-2 : tie.Need-returns-2
-returns-2 c =
-    let a = c .before .before .before .before .before .before .before .args in
-    let i = called (a .src) (a .options) [] [] [] [] in
-    masks-stop i (c .before .before .before .validate .result) (c .before .check .given .0 .0) (c .before .before .before .before .before .if1 .left) (c .before .before .before .validate .ensures) (c .before .check .given .1)
-
-enum-told : tie.Need-enum-told
-enum-told c = search needs
-
-is-mask-source-requires : tie.Need-is-mask-source-requires
-is-mask-source-requires c κs = search needs
-
-returns-3 : tie.Need-returns-3
-returns-3 c =
-    let a = c .before .before .before .before .before .before .before .before .args in
-    let i = called (a .src) (a .options) [] [] [] [] in
-    masks-rest i (c .before .before .before .before .validate .result) (c .before .is-mask-source .result) true (c .before .before .before .before .before .before .if1 .left) (c .before .before .before .before .validate .ensures) (c .before .before .enum-told .given .1)
-    (c .before .is-mask-source .ensures) (c .if2 .taken)
-
-returns-4 : tie.Need-returns-4
-returns-4 c =
-    let a = c .before .before .before .before .before .before .before .before .args in
-    let i = called (a .src) (a .options) [] [] [] [] in
-    masks-rest i (c .before .before .before .before .validate .result) (c .before .is-mask-source .result) false (c .before .before .before .before .before .before .if1 .left) (c .before .before .before .before .validate .ensures) (c .before .before .enum-told .given .1)
-    (c .before .is-mask-source .ensures) (c .if2 .left)
+unfolding givenMasksRows
+returns-2 c = rw (c .if1 .left)
 
 pub check-masks-spec : {M : Type 1} → statement M
 check-masks-spec =
-    tie.close
-    (tie.spec
-    returns
-    validate-requires
-    enum-known-check
-    returns-2
-    enum-told
-    is-mask-source-requires
-    returns-3
-    returns-4)
+    tie.close (tie.spec validate-requires check-source-requires or-requires returns returns-2)

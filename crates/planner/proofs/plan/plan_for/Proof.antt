@@ -1,12 +1,10 @@
-use mathlib.Core.Path.{sym, ap, _∙_}
-use borrow.Author.Needs.{needs}
+use mathlib.Core.Path.{sym, _∙_}
 use Prim.Native.Nat.{_*_}
 use native.Mathlib.Omega.{arith}
-use lib.ListN.{length}
-use Rattle.leaves.specs.declared.error.Check.the-variants.{Passed, Refused}
-use Rattle.planner.specs.Calls.{called}
-use Rattle.planner.proofs.PlanLaws.{checks-is, raw-is, rle-no-tail, raw-fits, plan-stops, plan-is}
-use Rattle.planner.proofs.Unread.{planned-bare, tail-framed, head-tabled}
+use Rattle.format.proofs.Acceptance.{checks-passed}
+use Rattle.planner.proofs.PlanLaws.{raw-fits, raw-is, stream-planned, plan-stops, plan-sizes}
+use Rattle.format.specs.File.{maxFile}
+use borrow.Author.Needs.{needs}
 use Rattle.planner.proofs.plan.plan_for.Statement.{statement}
 use Rattle.planner.proofs.plan.plan_for.Tie as tie
 
@@ -18,20 +16,22 @@ enum-known-check c = search needs
 
 returns : tie.Need-returns
 returns c =
-    let a = c .before .before .before .before .before .before .before .before .args in
-    let i = called (a .src) (a .options) (a .plane .now) (a .palette .now) (a .icc .now) (a .linked-icc .now) in
-    let k = c .before .before .before .checks in
-    let why = c .before .check .given .0 .0 in
-    plan-stops i why (checks-is i (k .result) (Refused why) (k .ensures) (c .before .check .given .1))
+    let a = c .before .before .before .before .args in
+    let t = c .before .check .given in
+    plan-stops maxFile (a .src) (a .options) (a .plane-bytes) (a .palette-bytes) (a .profile-bytes) (c .before .before .before .checks .result) (t .0 .0) (c .before .before .before .checks .ensures) (t .1)
 
 enum-told : tie.Need-enum-told
 enum-told c = search needs
 
-head-len-requires : tie.Need-head-len-requires
-head-len-requires c κs = search needs
+layout-of-requires : tie.Need-layout-of-requires
+layout-of-requires c κs =
+    let s = c .before .before .before in
+    let a = s .args in
+    let passed = sym (c .before .before .checks .ensures) ∙ c .enum-told .given .1 in
+    (s .pre .0, λ q. checks-passed (a .src) (a .options) (a .plane-bytes) (a .palette-bytes) passed .masks q .runs)
 
-bit-count-requires : tie.Need-bit-count-requires
-bit-count-requires c κs = search needs
+head-len-requires : tie.Need-head-len-requires
+head-len-requires c κs = c .layout-of .ensures
 
 row-stride-requires : tie.Need-row-stride-requires
 row-stride-requires c κs = search needs
@@ -41,48 +41,37 @@ cast-raw c = search needs
 
 mul-raw : tie.Need-mul-raw
 mul-raw c =
-    let a = c .before .before .before .before .before .before .before .before .before .before .before .args in
-    let i = called (a .src) (a .options) (a .plane .now) (a .palette .now) (a .icc .now) (a .linked-icc .now) in
-    let k = c .before .before .before .before .before .before .checks in
-    let passed = checks-is i (k .result) Passed (k .ensures) (c .before .before .before .before .enum-told .given .1) in
-    let s = c .before .row-stride in
-    let d = c .before .before .bit-count in
-    let raw = raw-is i (d .result) (s .result) (d .ensures) (s .ensures) in
-    omega (arith, raw, raw-fits i passed)
+    let s = c .before .before .before .before .before .before .before in
+    let a = s .args in
+    let passed = sym (c .before .before .before .before .before .before .checks .ensures) ∙ c .before .before .before .before .enum-told .given .1 in
+    let k = checks-passed (a .src) (a .options) (a .plane-bytes) (a .palette-bytes) passed in
+    record { fits = omega (arith, raw-is (a .src) (a .options) (a .palette-bytes) (c .before .row-stride .result) (c .before .before .before .layout-of .result) (c .before .before .before .layout-of .ensures) (c .before .row-stride .ensures), raw-fits (a .src) (a .options) (a .plane-bytes) k) }
 
-tail-requires : tie.Need-tail-requires
-tail-requires c κs = search needs
-
-rle-planned-requires : tie.Need-rle-planned-requires
-rle-planned-requires c κs = search needs
-
-of-requires : tie.Need-of-requires
-of-requires c κs =
-    let a = c .before .before .before .before .before .before .before .before .before .before .before .before .before .args in
-    let i = called (a .src) (a .options) (a .plane .now) (a .palette .now) (a .icc .now) (a .linked-icc .now) in
-    let k = c .before .before .before .before .before .before .before .before .checks in
-    let passed = checks-is i (k .result) Passed (k .ensures) (c .before .before .before .before .before .before .enum-told .given .1) in
-    let s = c .before .before .before .row-stride in
-    let d = c .before .before .before .before .bit-count in
-    let raw = raw-is i (d .result) (s .result) (d .ensures) (s .ensures) in
-    let t = c .before .tail in
-    let none = rle-no-tail i (c .rle-planned .result) (length (t .result .now)) (c .rle-planned .ensures ∙ sym (planned-bare i)) (ap length (t .ensures ∙ sym (tail-framed i))) in
-    (c .before .before .before .before .before .head-len .ensures .1, (omega (arith, raw, raw-fits i passed), none))
+sizes-for-requires : tie.Need-sizes-for-requires
+sizes-for-requires c κs =
+    let s = c .before .before .before .before .before .before .before in
+    let a = s .args in
+    let passed = sym (c .before .before .before .before .before .before .checks .ensures) ∙ c .before .before .before .before .enum-told .given .1 in
+    let k = checks-passed (a .src) (a .options) (a .plane-bytes) (a .palette-bytes) passed in
+    let l = c .before .before .before .layout-of in (
+      omega arith,
+      (
+        c .before .before .head-len .ensures .1,
+        (
+          omega (arith, raw-is (a .src) (a .options) (a .palette-bytes) (c .before .row-stride .result) (l .result) (l .ensures) (c .before .row-stride .ensures), raw-fits (a .src) (a .options) (a .plane-bytes) k),
+          λ q. s .pre .1 (sym (stream-planned (a .src) (a .options) (a .palette-bytes) (l .result) (l .ensures)) ∙ q),
+        ),
+      ),
+    )
 
 returns-2 : tie.Need-returns-2
 returns-2 c =
-    let a = c .before .before .before .before .before .before .before .before .before .before .before .before .before .before .args in
-    let i = called (a .src) (a .options) (a .plane .now) (a .palette .now) (a .icc .now) (a .linked-icc .now) in
-    let k = c .before .before .before .before .before .before .before .before .before .checks in
-    let passed = checks-is i (k .result) Passed (k .ensures) (c .before .before .before .before .before .before .before .enum-told .given .1) in
-    let s = c .before .before .before .before .row-stride in
-    let d = c .before .before .before .before .before .bit-count in
-    let raw = raw-is i (d .result) (s .result) (d .ensures) (s .ensures) in
-    let h = c .before .before .before .before .before .before .head-len in
-    let t = c .before .before .tail in
-    let p = c .before .rle-planned in
-    plan-is i (c .of .result) (h .result) (s .result * a .src .height) (length (t .result .now)) (p .result) passed
-    (h .ensures .0 ∙ sym (head-tabled i)) raw (ap length (t .ensures ∙ sym (tail-framed i))) (p .ensures ∙ sym (planned-bare i)) (c .of .ensures)
+    let s = c .before .before .before .before .before .before .before .before in
+    let a = s .args in
+    let passed = sym (c .before .before .before .before .before .before .before .checks .ensures) ∙ c .before .before .before .before .before .enum-told .given .1 in
+    let l = c .before .before .before .before .layout-of in
+    plan-sizes maxFile (a .src) (a .options) (a .plane-bytes) (a .palette-bytes) (a .profile-bytes) (c .before .before .before .head-len .result) (c .before .before .row-stride .result * a .src .height) (l .result) (c .sizes-for .result) passed
+    (l .ensures) (c .before .before .before .head-len .ensures .0) (raw-is (a .src) (a .options) (a .palette-bytes) (c .before .before .row-stride .result) (l .result) (l .ensures) (c .before .before .row-stride .ensures)) (c .sizes-for .ensures)
 
 pub plan-for-spec : {M : Type 1} → statement M
 plan-for-spec =
@@ -92,12 +81,10 @@ plan-for-spec =
     enum-known-check
     returns
     enum-told
+    layout-of-requires
     head-len-requires
-    bit-count-requires
     row-stride-requires
     cast-raw
     mul-raw
-    tail-requires
-    rle-planned-requires
-    of-requires
+    sizes-for-requires
     returns-2)
