@@ -7,7 +7,7 @@ use Prim.Native.Nat.{ℕ, _+_, _-_, _*_, _/_, _≤_, _<_}
 use native.Mathlib.Nat.{suc-mul, mul-one, mul-comm, mul-le-mul-right}
 use native.Mathlib.Omega.{arith}
 use lib.ListN.{length, take, drop, length-append, length-replicate, length-take}
-use Rattle.rows.specs.declared.pack.MaskLayout.{MaskLayout}
+use Rattle.rows.specs.declared.masks.MaskLayout.{MaskLayout}
 use Rattle.rows.specs.declared.pack.RowPack.{RowPack}
 use Rattle.rows.specs.declared.pack.RowPack.the-variants.{Bgra32, Bgr24, Words16, Indexed, Masks}
 use Rattle.leaves.specs.Lists.{cat}

@@ -14,7 +14,7 @@ use lib.Dec.{eqb}
 use lib.ListN.{length, getD, replicate}
 use lib.Pow.{shl-exact, mod-mod-pow, field as middle}
 use Rattle.leaves.specs.declared.bitfields.MaskShiftLen.{MaskShiftLen}
-use Rattle.rows.specs.declared.pack.MaskLayout.{MaskLayout}
+use Rattle.rows.specs.declared.masks.MaskLayout.{MaskLayout}
 use Rattle.rows.specs.declared.pack.RowPack.the-variants.{Masks}
 use Rattle.leaves.specs.Bytes.{le16, le32}
 use Rattle.leaves.specs.Fit.{fit}

@@ -10,8 +10,8 @@ use borrow.Author.Tests.{ltb-true, lt-ltb, le-ltb, eq-eqb, ne-eqb}
 use lib.Dec.{ltb, eqb}
 use lib.ListN.{length, getD, drop, length-append, length-drop, drop-of-length-le}
 use lib.Seq.{drop-cons, drop-drop}
-use Rattle.rows.specs.declared.rle.Block.{Block}
-use Rattle.rows.specs.declared.rle.Block.the-variants.{Pair, Absolute}
+use Rattle.rows.specs.declared.blocks.Block.{Block}
+use Rattle.rows.specs.declared.blocks.Block.the-variants.{Pair, Absolute}
 use Rattle.rows.specs.Packing.{packed}
 use Rattle.rows.specs.RleCodes.{depthOf, cells, scan, lone, same, runLength, gatherLength, choose, block, blockAt, width, bytes, size, codes, rowCodes}
 use Rattle.leaves.proofs.ListLaws.{length-tab}

@@ -10,8 +10,8 @@ use lib.Dec.{ltb}
 use lib.ListN.{length, getD, take, drop, set, length-take, length-set, List·getD-eq-default}
 use lib.Pow.{pow-pos}
 use lib.Seq.{getD-take, getD-drop}
-use Rattle.rows.specs.declared.rle.Block.{Block}
-use Rattle.rows.specs.declared.rle.Block.the-variants.{Pair, Absolute}
+use Rattle.rows.specs.declared.blocks.Block.{Block}
+use Rattle.rows.specs.declared.blocks.Block.the-variants.{Pair, Absolute}
 use Rattle.leaves.specs.Put.{put}
 use Rattle.rows.specs.Packing.{digits, packedByte, packed}
 use Rattle.rows.specs.RleCodes.{cells, runLength, gatherLength, blockAt, dataBytes, bytes, size, width, codes, rowCodes}

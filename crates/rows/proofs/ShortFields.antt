@@ -11,7 +11,7 @@ use lib.Dec.{eqb}
 use lib.ListN.{length, getD}
 use lib.Pow.{shl-exact}
 use Rattle.leaves.specs.declared.bitfields.MaskShiftLen.{MaskShiftLen}
-use Rattle.rows.specs.declared.pack.MaskLayout.{MaskLayout}
+use Rattle.rows.specs.declared.masks.MaskLayout.{MaskLayout}
 use Rattle.leaves.specs.Bytes.{le16, le32}
 use Rattle.leaves.specs.Fit.{fit}
 use Rattle.leaves.specs.Lists.{cat}

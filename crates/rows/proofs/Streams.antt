@@ -9,7 +9,7 @@ use native.Mathlib.Omega.{arith}
 use borrow.Author.Tests.{lt-ltb, le-ltb}
 use lib.Dec.{eqb}
 use lib.ListN.{length, take, drop, length-append}
-use Rattle.rows.specs.declared.rle.StreamCount.the-variants.{Under, OverBudget}
+use Rattle.rows.specs.declared.counting.StreamCount.the-variants.{Under, OverBudget}
 use Rattle.leaves.specs.Lists.{cat}
 use Rattle.leaves.specs.Put.{put}
 use Rattle.rows.specs.RleCodes.{rowCodes}

@@ -8,7 +8,7 @@ use native.Mathlib.Omega.{arith}
 use borrow.Author.Tests.{eqb-true, eqb-false, ne-eqb}
 use lib.Dec.{eqb}
 use lib.ListN.{length, getD, drop}
-use Rattle.rows.specs.declared.rle.Block.the-variants.{Pair, Absolute}
+use Rattle.rows.specs.declared.blocks.Block.the-variants.{Pair, Absolute}
 use Rattle.rows.specs.RleCodes.{cells, scan, same, lone, runLength, gatherLength, codes, dataBytes}
 use Rattle.rows.proofs.RleBlocks.{block-run, block-absolute, block-single, turn}
 use Rattle.rows.proofs.Scans.{scan-stop, scan-step, twin-at, Running, run-start, run-end, run-stop, run-on}

@@ -6,8 +6,8 @@ use lib.Dec.{ltb, eqb}
 use lib.ListN.{getD, take, drop}
 use Rattle.rows.specs.declared.rle.Rle.{Rle}
 use Rattle.rows.specs.declared.rle.Rle.the-variants.{Rle8, Rle4}
-use Rattle.rows.specs.declared.rle.Block.{Block}
-use Rattle.rows.specs.declared.rle.Block.the-variants.{Pair, Absolute}
+use Rattle.rows.specs.declared.blocks.Block.{Block}
+use Rattle.rows.specs.declared.blocks.Block.the-variants.{Pair, Absolute}
 use Rattle.rows.specs.Packing.{packedByte, packed}
 
 -- Rle4 and not Rle8

@@ -3,8 +3,8 @@ use mathlib.Core.Bool.{false, cond}
 use mathlib.Core.List.{List, [], _∷_, _++_}
 use Prim.Native.Nat.{ℕ, _+_, _-_}
 use lib.Dec.{ltb, eqb}
-use Rattle.rows.specs.declared.rle.StreamCount.{StreamCount}
-use Rattle.rows.specs.declared.rle.StreamCount.the-variants.{Under, OverBudget}
+use Rattle.rows.specs.declared.counting.StreamCount.{StreamCount}
+use Rattle.rows.specs.declared.counting.StreamCount.the-variants.{Under, OverBudget}
 use Rattle.leaves.specs.Lists.{cat}
 use Rattle.rows.specs.StoredRows.{rowOf, sourceRow}
 use Rattle.rows.specs.RleCodes.{rowCodes}
