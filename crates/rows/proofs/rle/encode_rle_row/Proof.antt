@@ -43,16 +43,16 @@ unfolding rowCodes
 loop-holds c = (omega arith, refl, refl, refl)
 
 cell-requires : tie.Need-cell-requires Inv-loop2 μ-loop2 Inv-loop μ-loop
-cell-requires c κs = omega arith
+cell-requires c κs = c .loop-test .taken
 
 sub-most-cells : tie.Need-sub-most-cells Inv-loop2 μ-loop2 Inv-loop μ-loop
-sub-most-cells c = omega arith
+sub-most-cells c = c .before .before .loop .inv .0
 
 most-cells-requires : tie.Need-most-cells-requires Inv-loop2 μ-loop2 Inv-loop μ-loop
-most-cells-requires c κs = omega arith
+most-cells-requires c κs = tt
 
 first-differences-requires : tie.Need-first-differences-requires Inv-loop2 μ-loop2 Inv-loop μ-loop
-first-differences-requires c κs = omega arith
+first-differences-requires c κs = c .before .before .loop-test .taken
 
 loop2-holds : tie.Need-loop2-holds Inv-loop2 μ-loop2 Inv-loop μ-loop
 loop2-holds c =
