@@ -5,8 +5,8 @@ use Prim.Native.Nat.{ℕ, _+_, _-_, _*_, _%_, _≤_, _<_}
 use native.Mathlib.Nat.{le-antisymm}
 use native.Mathlib.Numerals.{add-one}
 use native.Mathlib.Omega.{arith}
-use lib.ListN.{length, take, drop, getD, set, length-drop}
-use lib.Seq.{take-suc-set, getD-take, getD-drop, drop-drop, ext-getD, length-take-le}
+use lib.ListN.{length, take, drop, set, length-drop}
+use lib.Seq.{take-suc-set, getD-take, getD-drop, drop-drop, ext-getD, length-take-le, take-length}
 use Rattle.leaves.specs.Lists.{tab}
 use Rattle.leaves.specs.Put.{put}
 use Rattle.rows.specs.Packing.{digits, packedByte}
@@ -23,11 +23,8 @@ pub fill : (t : List ℕ) (g : ℕ → ℕ) (j v : ℕ) → j < length t → tak
 unfolding tab
 fill t g j v h e f = rw (add-one j, take-suc-set t j v h, e, f)
 
-pub filled : (t : List ℕ) (g : ℕ → ℕ) (j n : ℕ) → j ≤ n → n ≤ j → take j t ≡ tab g j → take n t ≡ tab g n
-filled t g j n h k e = subst (λ (m : ℕ). take m t ≡ tab g m) (le-antisymm h k) e
-
-pub element : (t s : List ℕ) (n j : ℕ) → take n t ≡ s → j < n → getD t j 0 ≡ getD s j 0
-element t s n j e h = sym (getD-take n t j 0 h) ∙ ap (λ (l : List ℕ). getD l j 0) e
+pub filled : (t : List ℕ) (g : ℕ → ℕ) (j n : ℕ) → length t ≡ n → j ≤ n → n ≤ j → take j t ≡ tab g j → t ≡ tab g n
+filled t g j n l h k e = sym (take-length t) ∙ ap (λ (m : ℕ). take m t) l ∙ subst (λ (m : ℕ). take m t ≡ tab g m) (le-antisymm h k) e
 
 -- m bytes of a list by places, from place i on
 part : (g : ℕ → ℕ) (n i m : ℕ) → i + m ≤ n → tab (λ k. g (i + k)) m ≡ take m (drop i (tab g n))

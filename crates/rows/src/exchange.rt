@@ -10,6 +10,7 @@ ghost use Rattle.leaves.specs.Bytes.{le32};
 ghost use Rattle.leaves.specs.Lists.{tab, cat};
 ghost use Rattle.leaves.specs.Put.{put};
 ghost use Rattle.rows.specs.StoredRows.{cell24, cell32, exchangedByte};
+use crate::words::put_each;
 use leaves::buffer::put_u32;
 
 // The word of four bytes, the first one lowest.
@@ -106,11 +107,7 @@ fn exchange_sixteen(src: &[u8], i: usize, dst: &mut [u8], at: usize)
         bytes[j] = exchanged_byte(src[s - 2], src[s], src[s + 2], j);
         j += 1;
     }
-    let mut k = 0;
-    while k < 48 {
-        dst[at + k] = bytes[k];
-        k += 1;
-    }
+    put_each(&bytes, dst, at);
 }
 
 // The first cells of a row with red first, and how many they are: one alone, then sixteen a turn. A turn

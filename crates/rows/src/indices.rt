@@ -7,6 +7,7 @@ ghost use Rattle.leaves.specs.Lists.{tab};
 ghost use Rattle.leaves.specs.Put.{put};
 ghost use Rattle.leaves.specs.Sizes.{rowStride, hasTable};
 ghost use Rattle.rows.specs.Packing.{packedByte, packed};
+use crate::words::put_each;
 use leaves::buffer::put_slice;
 use leaves::buffer::put_zeros;
 use leaves::types::row_stride;
@@ -50,11 +51,7 @@ fn pack_sixteen(src: &[u8], i: usize, dst: &mut [u8], at: usize)
         bytes[j] = nibbles(src[x], src[x + 1]);
         j += 1;
     }
-    let mut k = 0;
-    while k < 16 {
-        dst[at + k] = bytes[k];
-        k += 1;
-    }
+    put_each(&bytes, dst, at);
 }
 
 // The first n bytes of indices packed to 4 bits.

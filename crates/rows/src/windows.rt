@@ -65,7 +65,7 @@ fn flag_word(row: &[u8], at: usize) -> u64
 }
 
 // The flags of the window at `at`: near the row's end from the row's last 65 cells.
-pub fn window_flags(row: &[u8], at: usize) -> u64
+pub(crate) fn window_flags(row: &[u8], at: usize) -> u64
     requires { ⌜ (65 ≤ length (now row)) × (at + 2 ≤ length (now row)) ⌝ }
     ensures { λ r. ⌜ r ≡ fromBits (flagsAt (now (row .entry)) at) 64 ⌝ }
 {
@@ -89,7 +89,7 @@ fn charges(e: u64) -> u64
 }
 
 // The bytes charged to the first v cells of the window.
-pub fn charge_below(e: u64, v: usize) -> usize
+pub(crate) fn charge_below(e: u64, v: usize) -> usize
     requires { ⌜ (1 ≤ v) × (v ≤ 64) ⌝ }
     ensures { λ r. ⌜ ((f : ℕ → Bool) → e ≡ fromBits f 64 → r ≡ 2 * total (charged f) v) × (r ≤ 128) ⌝ }
 {
@@ -97,7 +97,7 @@ pub fn charge_below(e: u64, v: usize) -> usize
 }
 
 // Past the last cell of the window's last run that ends in it; 0 where none does.
-pub fn whole_runs(e: u64) -> usize
+pub(crate) fn whole_runs(e: u64) -> usize
     ensures { λ r. ⌜ ((f : ℕ → Bool) → e ≡ fromBits f 64 → (r ≡ 0) ⊎ ((2 ≤ r) × (r ≤ 64) × (f (r - 2) ≡ true) × (f (r - 1) ≡ false))) × (r ≤ 64) ⌝ }
 {
     let ends = e << 1 & !e;

@@ -1,15 +1,12 @@
 use mathlib.Core.Path.{_≡_, refl, sym, ap, _∙_}
 use mathlib.Core.List.{List}
 use Prim.Native.Nat.{ℕ, _+_, _-_, _≤_}
-use native.Mathlib.Nat.{add-zero}
 use native.Mathlib.Omega.{arith}
-use lib.ListN.{length, take, drop, getD, length-set}
+use lib.ListN.{length, take, getD, length-set}
 use Rattle.leaves.specs.Lists.{tab}
 use Rattle.leaves.specs.Put.{put}
 use Rattle.rows.specs.Packing.{packedByte}
-use Rattle.leaves.proofs.ListLaws.{length-tab}
-use Rattle.leaves.proofs.Puts.{put-step, put-done}
-use Rattle.rows.proofs.Nibbles.{byte-4, fill, filled, element}
+use Rattle.rows.proofs.Nibbles.{byte-4, fill, filled}
 use Rattle.rows.proofs.indices.pack_sixteen.Statement.{statement}
 use Rattle.rows.proofs.indices.pack_sixteen.Tie as tie
 
@@ -23,50 +20,39 @@ Inv-loop src i dst at bytes₀ j₀ bytes j = (j ≤ 16) × (length bytes ≡ 16
 abbrev μ-loop : tie.MeasureT-loop
 μ-loop src i dst at bytes₀ j₀ bytes j = 16 - j
 
-abbrev Inv-loop2 : tie.InvT-loop2
-Inv-loop2 src i dst₀ at bytes j k₀ dst k =
-    (k ≤ 16)
-    × (length bytes ≡ 16)
-    × (take 16 bytes ≡ tab (byte src i) 16)
-    × (length dst ≡ length dst₀)
-    × (put dst (at + k) (drop k (tab (byte src i) 16)) ≡ put dst₀ at (tab (byte src i) 16))
-
-abbrev μ-loop2 : tie.MeasureT-loop2
-μ-loop2 src i dst₀ at bytes j k₀ dst k = 16 - k
-
-loop-holds : tie.Need-loop-holds Inv-loop μ-loop Inv-loop2 μ-loop2
+loop-holds : tie.Need-loop-holds Inv-loop μ-loop
 unfolding tab
 loop-holds c = (omega arith, refl, refl)
 
-add-x : tie.Need-add-x Inv-loop μ-loop Inv-loop2 μ-loop2
+add-x : tie.Need-add-x Inv-loop μ-loop
 add-x c = omega arith
 
-mul-x : tie.Need-mul-x Inv-loop μ-loop Inv-loop2 μ-loop2
+mul-x : tie.Need-mul-x Inv-loop μ-loop
 mul-x c = omega arith
 
-shared-slice-read-nibbles : tie.Need-shared-slice-read-nibbles Inv-loop μ-loop Inv-loop2 μ-loop2
+shared-slice-read-nibbles : tie.Need-shared-slice-read-nibbles Inv-loop μ-loop
 shared-slice-read-nibbles c = omega arith
 
-add-nibbles : tie.Need-add-nibbles Inv-loop μ-loop Inv-loop2 μ-loop2
+add-nibbles : tie.Need-add-nibbles Inv-loop μ-loop
 add-nibbles c = omega arith
 
 shared-slice-read-nibbles-2 :
-    tie.Need-shared-slice-read-nibbles-2 Inv-loop μ-loop Inv-loop2 μ-loop2
+    tie.Need-shared-slice-read-nibbles-2 Inv-loop μ-loop
 shared-slice-read-nibbles-2 c = omega arith
 
-nibbles-requires : tie.Need-nibbles-requires Inv-loop μ-loop Inv-loop2 μ-loop2
+nibbles-requires : tie.Need-nibbles-requires Inv-loop μ-loop
 nibbles-requires c κs = tt
 
-array-write-bytes : tie.Need-array-write-bytes Inv-loop μ-loop Inv-loop2 μ-loop2
+array-write-bytes : tie.Need-array-write-bytes Inv-loop μ-loop
 array-write-bytes c = omega arith
 
-add-j : tie.Need-add-j Inv-loop μ-loop Inv-loop2 μ-loop2
+add-j : tie.Need-add-j Inv-loop μ-loop
 add-j c = omega arith
 
-loop-less : tie.Need-loop-less Inv-loop μ-loop Inv-loop2 μ-loop2
+loop-less : tie.Need-loop-less Inv-loop μ-loop
 loop-less c = omega arith
 
-loop-again : tie.Need-loop-again Inv-loop μ-loop Inv-loop2 μ-loop2
+loop-again : tie.Need-loop-again Inv-loop μ-loop
 loop-again c =
     let l = c .before .before .before .before .loop in
     let a = c .before .before .before .before .before .before .before .args in (
@@ -75,52 +61,21 @@ loop-again c =
       fill (l .bytes) (byte (a .src .now) (a .i)) (l .j) (c .nibbles .result) (omega arith) (l .inv .2) (c .nibbles .ensures ∙ byte-4 (λ x. getD (a .src .now) x 0) (a .i + l .j)),
     )
 
-loop2-holds : tie.Need-loop2-holds Inv-loop μ-loop Inv-loop2 μ-loop2
-loop2-holds c =
-    let l = c .before .loop in
-    let a = c .before .before .before .before .args in
-    let s = tab (byte (a .src .now) (a .i)) 16 in
-    (omega arith, l .inv .1, filled (l .bytes) (byte (a .src .now) (a .i)) (l .j) 16 (l .inv .0) (omega arith) (l .inv .2), refl, ap (λ (o : ℕ). put (a .dst .now) o s) (add-zero (a .at)))
+slice-aggregate-put-each : tie.Need-slice-aggregate-put-each Inv-loop μ-loop
+slice-aggregate-put-each c = sym (c .before .before .loop .inv .1)
 
-array-read-dst : tie.Need-array-read-dst Inv-loop μ-loop Inv-loop2 μ-loop2
-array-read-dst c = omega arith
+put-each-requires : tie.Need-put-each-requires Inv-loop μ-loop
+put-each-requires c κs = omega (arith, c .before .before .before .loop .inv .1)
 
-add-dst : tie.Need-add-dst Inv-loop μ-loop Inv-loop2 μ-loop2
-add-dst c = omega arith
-
-slice-write-dst : tie.Need-slice-write-dst Inv-loop μ-loop Inv-loop2 μ-loop2
-slice-write-dst c = omega arith
-
-add-k : tie.Need-add-k Inv-loop μ-loop Inv-loop2 μ-loop2
-add-k c = omega arith
-
-loop2-less : tie.Need-loop2-less Inv-loop μ-loop Inv-loop2 μ-loop2
-loop2-less c = omega arith
-
-loop2-again : tie.Need-loop2-again Inv-loop μ-loop Inv-loop2 μ-loop2
-loop2-again c =
-    let l = c .before .loop2 in
-    let t = c .before .before .before .loop .bytes in
-    let a = c .before .before .before .before .before .before .args in
-    let s = tab (byte (a .src .now) (a .i)) 16 in
-    let n : length s ≡ 16 = length-tab (byte (a .src .now) (a .i)) 16 in (
-      omega arith,
-      l .inv .1,
-      l .inv .2,
-      simp length-set (l .inv .3),
-      put-step (l .dst) (a .at) s (l .k) (getD t (l .k) 0) (element t s 16 (l .k) (l .inv .2) (omega arith)) (omega arith) (omega arith) ∙ l .inv .4,
-    )
-
-same-length : tie.Need-same-length Inv-loop μ-loop Inv-loop2 μ-loop2
+same-length : tie.Need-same-length Inv-loop μ-loop
 same-length c = omega arith
 
-returns : tie.Need-returns Inv-loop μ-loop Inv-loop2 μ-loop2
+returns : tie.Need-returns Inv-loop μ-loop
 returns c =
-    let l = c .before .loop2 in
-    let a = c .before .before .before .before .before .before .args in
-    let s = tab (byte (a .src .now) (a .i)) 16 in
-    let n : length s ≡ 16 = length-tab (byte (a .src .now) (a .i)) 16 in
-    sym (put-done (l .dst) (a .at) s (l .k) (omega arith)) ∙ l .inv .4
+    let l = c .before .before .before .before .before .before .loop in
+    let a = c .before .before .before .before .before .before .before .before .before .args in
+    c .before .before .put-each .ensures
+    ∙ ap (put (a .dst .now) (a .at)) (filled (l .bytes) (byte (a .src .now) (a .i)) (l .j) 16 (l .inv .1) (l .inv .0) (omega arith) (l .inv .2))
 
 pub pack-sixteen-spec : {M : Type 1} → statement M
 pack-sixteen-spec =
@@ -128,8 +83,6 @@ pack-sixteen-spec =
     (tie.spec
     Inv-loop
     μ-loop
-    Inv-loop2
-    μ-loop2
     loop-holds
     add-x
     mul-x
@@ -141,12 +94,7 @@ pack-sixteen-spec =
     add-j
     loop-less
     loop-again
-    loop2-holds
-    array-read-dst
-    add-dst
-    slice-write-dst
-    add-k
-    loop2-less
-    loop2-again
+    slice-aggregate-put-each
+    put-each-requires
     same-length
     returns)
