@@ -10,8 +10,8 @@ use borrow.Author.Tests.{le-ltb, eqb-true, ne-eqb}
 use lib.Dec.{ltb, eqb}
 use lib.ListN.{length, getD, take, drop, length-append, length-take, length-drop, take-append-drop}
 use lib.Seq.{getD-take, drop-append-seam}
-use Rattle.rows.specs.declared.rle.Block.{Block}
-use Rattle.rows.specs.declared.rle.Block.the-variants.{Pair, Absolute}
+use Rattle.rows.specs.declared.blocks.Block.{Block}
+use Rattle.rows.specs.declared.blocks.Block.the-variants.{Pair, Absolute}
 use Rattle.leaves.specs.Lists.{tab, cat}
 use Rattle.rows.specs.Packing.{packed}
 use Rattle.rows.specs.RleCodes.{cells, scan, same, lone, runLength, gatherLength, block, width, dataBytes, bytes, codes, rowCodes}

@@ -11,11 +11,11 @@ use lib.ListN.{length, getD, replicate}
 use Rattle.leaves.specs.declared.encoder.EncodeSource.{EncodeSource}
 use Rattle.leaves.specs.declared.options.EncodeOptions.{EncodeOptions}
 use Rattle.leaves.specs.declared.image.BmpPixelFormat.{BmpPixelFormat}
-use Rattle.rows.specs.declared.pack.MaskLayout.{MaskLayout}
+use Rattle.rows.specs.declared.masks.MaskLayout.{MaskLayout}
 use Rattle.rows.specs.declared.pack.RowPack.{RowPack}
 use Rattle.rows.specs.declared.pack.RowPack.the-variants.{Bgra32, Bgr24, Words16, Indexed, Masks}
-use Rattle.rows.specs.declared.rle.Block.{Block}
-use Rattle.rows.specs.declared.rle.Block.the-variants.{Pair, Absolute}
+use Rattle.rows.specs.declared.blocks.Block.{Block}
+use Rattle.rows.specs.declared.blocks.Block.the-variants.{Pair, Absolute}
 use Rattle.leaves.specs.Bytes.{le16, le32}
 use Rattle.format.specs.File.{modeIn, packIn, rlePlanned, rawBytes, entriesOf, headBytes, tailOf, streamOf, maxFile, budget, streamUsed, storedRowsOf, pixels, tableEntry, colourTable, fileSize, fileOf, plainSize, boundOf}
 use Rattle.format.specs.Layout.{isProfiled, tailIn, maskTail, headRest, coded}

@@ -20,7 +20,7 @@ use Rattle.format.specs.declared.layout.Coding.the-variants.{Stream, Not
 use Rattle.leaves.specs.Masks.{count, lowest, hasAlphaMask, maskCompression}
 use Rattle.leaves.specs.Refusals.{profileMode}
 use Rattle.leaves.specs.Sizes.{rowStride, writtenPaletteEntries}
-use Rattle.rows.specs.declared.pack.MaskLayout.{MaskLayout}
+use Rattle.rows.specs.declared.masks.MaskLayout.{MaskLayout}
 use Rattle.rows.specs.declared.pack.RowPack.{RowPack}
 use Rattle.rows.specs.declared.pack.RowPack.the-variants as pack
 use Rattle.rows.specs.declared.rle.Rle.the-variants.{Rle8, Rle4}

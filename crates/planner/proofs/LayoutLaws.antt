@@ -16,7 +16,7 @@ use Rattle.leaves.specs.Formats.{bitsPerPixel, isIndexed, isRgb565, plainToken}
 use Rattle.leaves.specs.Masks.{count, lowest, isOneRun, hasAlphaMask, maskCompression, ShiftLen}
 use Rattle.leaves.specs.Refusals.{profileMode}
 use Rattle.leaves.specs.Sizes.{writtenPaletteEntries}
-use Rattle.rows.specs.declared.pack.MaskLayout.{MaskLayout}
+use Rattle.rows.specs.declared.masks.MaskLayout.{MaskLayout}
 use Rattle.rows.specs.declared.pack.RowPack.{RowPack}
 use Rattle.format.specs.declared.layout.Coding.{Coding}
 use Rattle.format.specs.declared.layout.Coding.the-variants.{Stream, Nothing}

@@ -10,8 +10,8 @@ use lib.ListN.{length}
 use Rattle.leaves.specs.declared.error.Refusal.the-variants.{StreamOverBudget}
 use Rattle.leaves.specs.Refusals.{firstOf}
 use Rattle.rows.specs.declared.rle.Rle.{Rle}
-use Rattle.rows.specs.declared.rle.StreamCount.{StreamCount}
-use Rattle.rows.specs.declared.rle.StreamCount.the-variants.{Under, OverBudget}
+use Rattle.rows.specs.declared.counting.StreamCount.{StreamCount}
+use Rattle.rows.specs.declared.counting.StreamCount.the-variants.{Under, OverBudget}
 use Rattle.rows.specs.RleCodes.{isRle4, depthOf}
 use Rattle.rows.specs.Stream.{stream, counted}
 use Rattle.format.specs.declared.layout.Coding.{Coding}

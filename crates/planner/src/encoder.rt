@@ -38,10 +38,10 @@ use leaves::types::LCS_CALIBRATED_RGB;
 use leaves::types::LCS_S_RGB;
 use leaves::types::PROFILE_EMBEDDED;
 use leaves::types::PROFILE_LINKED;
+use rows::counting::StreamCount;
+use rows::counting::rle_len;
 use rows::rle::Rle;
-use rows::rle::StreamCount;
 use rows::rle::rle_into;
-use rows::rle::rle_len;
 
 // biXPelsPerMeter and biYPelsPerMeter: 72 dots an inch.
 const PELS_PER_METER: u32 = 2835;

@@ -25,7 +25,7 @@ use leaves::types::BI_RGB;
 use leaves::types::BITMAPINFOHEADER_SIZE;
 use leaves::types::BITMAPV4HEADER_SIZE;
 use leaves::types::BITMAPV5HEADER_SIZE;
-use rows::pack::MaskLayout;
+use rows::masks::MaskLayout;
 use rows::pack::RowPack;
 use rows::rle::Rle;
 

@@ -12,8 +12,8 @@ use lib.ListN.{length, getD, take, drop, length-take, length-drop, List·getD-eq
 use lib.Seq.{getD-take, getD-drop, ext-getD, length-take-le}
 use Rattle.leaves.specs.Lists.{tab}
 use Rattle.rows.specs.Packing.{digits, packedByte, packed}
-use Rattle.rows.specs.declared.rle.Block.{Block}
-use Rattle.rows.specs.declared.rle.Block.the-variants.{Pair, Absolute}
+use Rattle.rows.specs.declared.blocks.Block.{Block}
+use Rattle.rows.specs.declared.blocks.Block.the-variants.{Pair, Absolute}
 use Rattle.rows.specs.RleCodes.{cells, scan, twin, same, lone, runLength, gatherLength, blockAt, width, bytes, codes, rowCodes}
 use Rattle.rows.proofs.RleBlocks.{scanned, Sound, sound-at, codes-at, codes-none}
 use Rattle.rows.proofs.Nibbles.{byte-4}

@@ -11,7 +11,7 @@ use lib.Bits.{bitOr, or-zero-l}
 use lib.Dec.{eqb}
 use lib.ListN.{length, getD, replicate}
 use Rattle.leaves.specs.declared.bitfields.MaskShiftLen.{MaskShiftLen}
-use Rattle.rows.specs.declared.pack.MaskLayout.{MaskLayout}
+use Rattle.rows.specs.declared.masks.MaskLayout.{MaskLayout}
 use Rattle.rows.specs.declared.pack.RowPack.{RowPack}
 use Rattle.rows.specs.declared.pack.RowPack.the-variants.{Bgra32, Bgr24, Words16, Indexed, Masks}
 use Rattle.leaves.specs.Bytes.{le16, le32}
