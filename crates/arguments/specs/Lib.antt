@@ -1,4 +1,3 @@
-pub mod Texts
 pub mod Words
 pub mod Numbers
 pub mod Options

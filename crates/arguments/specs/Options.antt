@@ -13,7 +13,7 @@ use Rattle.leaves.specs.declared.image.BmpPixelFormat.the-variants.{Rgba, Rgb24
 use Rattle.leaves.specs.declared.options.CalibratedRgb.{CalibratedRgb}
 use Rattle.leaves.specs.declared.options.EncodeOptions.{EncodeOptions}
 use Rattle.leaves.specs.Formats.{bytesPerPixel}
-use Rattle.arguments.specs.Texts.{bytesOf}
+use Rattle.leaves.specs.Texts.{bytesOf}
 use Rattle.arguments.specs.Words.{itemsOf, itemAt, placeAmong}
 use Rattle.arguments.specs.Numbers.{numberOf, isNumber, isNumber32, number16, number32, signed32, areNumbers}
 

@@ -1,8 +1,12 @@
-// The layouts by name.
+// Formats by name: the layouts that are asked for, and what a file was written as.
 ghost use mathlib.Core.Path.{_≡_};
+ghost use Rattle.leaves.specs.Formats.{writtenName, writtenNames};
+ghost use Rattle.leaves.specs.Texts.{joined};
 ghost use Rattle.arguments.specs.Options.{formatNames, isFormat, formatNamed};
 ghost use Rattle.arguments.specs.Words.{placeAmong};
+use crate::words::item;
 use crate::words::place_in;
+use leaves::encoder::EncodedBmpFormat;
 use leaves::image::BmpPixelFormat;
 
 // The number of the layout that is so called; 10 where none is.
@@ -37,4 +41,12 @@ pub fn format_named(name: &[u8]) -> BmpPixelFormat
         8 => BmpPixelFormat::Indexed1,
         _ => BmpPixelFormat::Pal8,
     }
+}
+
+// What a format that a file was written as is called, out of the names of all.
+pub fn written_name<'a>(names: &'a [u8], format: EncodedBmpFormat) -> &'a [u8]
+    requires { ⌜ now names ≡ joined 44 writtenNames ⌝ }
+    ensures { λ r. ⌜ now r ≡ writtenName format ⌝ }
+{
+    item(names, format.number() as usize, b',')
 }

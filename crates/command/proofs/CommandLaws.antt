@@ -7,7 +7,7 @@ use native.Mathlib.Nat.{not-suc-le-zero}
 use native.Mathlib.Omega.{arith}
 use lib.ListN.{length, drop}
 use Rattle.arguments.specs.Options.{first, isNone, firstFault}
-use Rattle.arguments.specs.Texts.{bytesOf}
+use Rattle.leaves.specs.Texts.{bytesOf}
 use Rattle.arguments.specs.Words.{upTo, wordsOf, itemAt, alike}
 use Rattle.arguments.proofs.OptionLaws.{is-some}
 use Rattle.arguments.proofs.Pieces.{first-word, words-end}

@@ -3,7 +3,7 @@ use mathlib.Core.Bool.{Bool, _||_}
 use mathlib.Core.List.{List}
 use Prim.Native.Nat.{ℕ, _≤_}
 use Rattle.arguments.specs.Options.{first, isNone, firstFault}
-use Rattle.arguments.specs.Texts.{bytesOf}
+use Rattle.leaves.specs.Texts.{bytesOf}
 use Rattle.arguments.specs.Words.{alike}
 use Rattle.command.specs.declared.files.FileRead.{FileRead}
 use Rattle.command.specs.declared.files.FileRead.the-variants.{Whole, TooLong, Failed}

@@ -1,6 +1,8 @@
 // What formats and refusals are called.
+use arguments::formats::written_name;
 use arguments::words::item;
 use leaves::encoder::EncodedBmpFormat;
+use leaves::encoder::written_names;
 use leaves::error::Refusal;
 use libc::STDOUT_FILENO;
 
@@ -12,29 +14,10 @@ pub(crate) fn decimal(n: u64) {
     io::print_decimal(STDOUT_FILENO, n);
 }
 
-fn written_number(format: EncodedBmpFormat) -> usize {
-    match format {
-        EncodedBmpFormat::Rgb32 => 0,
-        EncodedBmpFormat::Rgb24 => 1,
-        EncodedBmpFormat::Rgb16Rgb => 2,
-        EncodedBmpFormat::Rgb16Bitfields => 3,
-        EncodedBmpFormat::Indexed8 => 4,
-        EncodedBmpFormat::Indexed4 => 5,
-        EncodedBmpFormat::Indexed2 => 6,
-        EncodedBmpFormat::Rle8 => 7,
-        EncodedBmpFormat::Rle4 => 8,
-        EncodedBmpFormat::Indexed1 => 9,
-        EncodedBmpFormat::Bitfields => 10,
-        EncodedBmpFormat::AlphaBitfields => 11,
-    }
-}
-
 // What a file was written as.
 pub(crate) fn print_written(format: EncodedBmpFormat) {
-    let names =
-        b"Rgb32,Rgb24,Rgb16Rgb,Rgb16Bitfields,Indexed8,Indexed4,Indexed2,Rle8,Rle4,Indexed1,\
-        Bitfields,AlphaBitfields";
-    text(item(names, written_number(format), b','));
+    let names = written_names();
+    text(written_name(&names, format));
 }
 
 // A refusal's cause: the line of its number, from 1.

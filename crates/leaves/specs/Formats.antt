@@ -1,10 +1,13 @@
 -- Source layouts and the formats they are written as.
 use mathlib.Core.Bool.{Bool, true, false}
+use mathlib.Core.List.{List, [], _∷_, map}
 use Prim.Native.Nat.{ℕ}
+use lib.ListN.{getD}
 use Rattle.leaves.specs.declared.image.BmpPixelFormat.{BmpPixelFormat}
 use Rattle.leaves.specs.declared.encoder.EncodedBmpFormat.{EncodedBmpFormat}
 use Rattle.leaves.specs.declared.image.BmpPixelFormat.the-variants as source
 use Rattle.leaves.specs.declared.encoder.EncodedBmpFormat.the-variants as written
+use Rattle.leaves.specs.Texts.{bytesOf}
 
 -- a cell's bytes in the lent plane (document 01, Cells: "source bytes")
 abbrev pub bytesPerPixel : BmpPixelFormat → ℕ
@@ -96,3 +99,27 @@ plainToken source.Pal8 = written.Indexed8
 plainToken source.Indexed4 = written.Indexed4
 plainToken source.Indexed2 = written.Indexed2
 plainToken source.Indexed1 = written.Indexed1
+
+-- the numbers of the formats that are answered, where an answer is numbers
+abbrev pub formatNumber : EncodedBmpFormat → ℕ
+formatNumber written.Rgb32 = 0
+formatNumber written.Rgb24 = 1
+formatNumber written.Rgb16Rgb = 2
+formatNumber written.Rgb16Bitfields = 3
+formatNumber written.Indexed8 = 4
+formatNumber written.Indexed4 = 5
+formatNumber written.Indexed2 = 6
+formatNumber written.Rle8 = 7
+formatNumber written.Rle4 = 8
+formatNumber written.Indexed1 = 9
+formatNumber written.Bitfields = 10
+formatNumber written.AlphaBitfields = 11
+
+-- what they are called, by number: the names of the Rust's variants
+unfoldable pub writtenNames : List (List ℕ)
+writtenNames =
+    map bytesOf
+    ("Rgb32" ∷ "Rgb24" ∷ "Rgb16Rgb" ∷ "Rgb16Bitfields" ∷ "Indexed8" ∷ "Indexed4" ∷ "Indexed2" ∷ "Rle8" ∷ "Rle4" ∷ "Indexed1" ∷ "Bitfields" ∷ "AlphaBitfields" ∷ [])
+
+unfoldable pub writtenName : EncodedBmpFormat → List ℕ
+writtenName f = getD writtenNames (formatNumber f) []

@@ -7,3 +7,4 @@ pub mod Options
 pub mod Put
 pub mod Refusals
 pub mod Sizes
+pub mod Texts

@@ -1,7 +1,8 @@
 // What is encoded, what it is written as, and the colour table's counts (the Rust's encoder.rs).
 ghost use mathlib.Core.Path.{_≡_};
-ghost use Rattle.leaves.specs.Formats.{plainToken};
+ghost use Rattle.leaves.specs.Formats.{plainToken, formatNumber, writtenNames};
 ghost use Rattle.leaves.specs.Sizes.{paletteEntryCount, writtenPaletteEntries, clrUsed};
+ghost use Rattle.leaves.specs.Texts.{joined};
 use crate::image::BmpPixelFormat;
 
 // What a file was written as.
@@ -18,6 +19,36 @@ pub enum EncodedBmpFormat {
     Indexed1,
     Bitfields,
     AlphaBitfields,
+}
+
+impl EncodedBmpFormat {
+    // Its number in an answer that is numbers, and its place among the names.
+    pub fn number(self) -> u32
+        ensures { λ r. ⌜ r ≡ formatNumber self ⌝ }
+    {
+        match self {
+            EncodedBmpFormat::Rgb32 => 0,
+            EncodedBmpFormat::Rgb24 => 1,
+            EncodedBmpFormat::Rgb16Rgb => 2,
+            EncodedBmpFormat::Rgb16Bitfields => 3,
+            EncodedBmpFormat::Indexed8 => 4,
+            EncodedBmpFormat::Indexed4 => 5,
+            EncodedBmpFormat::Indexed2 => 6,
+            EncodedBmpFormat::Rle8 => 7,
+            EncodedBmpFormat::Rle4 => 8,
+            EncodedBmpFormat::Indexed1 => 9,
+            EncodedBmpFormat::Bitfields => 10,
+            EncodedBmpFormat::AlphaBitfields => 11,
+        }
+    }
+}
+
+// The names of all of them by number, with commas between; `arguments::formats::written_name` takes one out.
+pub fn written_names() -> [u8; 106]
+    ensures { λ r. ⌜ r ≡ joined 44 writtenNames ⌝ }
+{
+    *b"Rgb32,Rgb24,Rgb16Rgb,Rgb16Bitfields,Indexed8,Indexed4,Indexed2,Rle8,Rle4,Indexed1,\
+        Bitfields,AlphaBitfields"
 }
 
 // The picture, but for the lent slices, which stand beside it: the plane, and the palette and the

@@ -4,7 +4,7 @@ use Prim.Native.Nat.{ℕ}
 use native.Mathlib.Omega.{arith}
 use Rattle.arguments.specs.Options.{formatNames}
 use Rattle.arguments.specs.Words.{onto, pieces, itemsOf, placeAmong}
-use Rattle.arguments.specs.Texts.{bytesOf}
+use Rattle.leaves.specs.Texts.{bytesOf}
 use Rattle.arguments.proofs.formats.format_number.Statement.{statement}
 use Rattle.arguments.proofs.formats.format_number.Tie as tie
 

@@ -6,7 +6,7 @@ use borrow.Author.Tests.{lt-ltb, le-ltb}
 use lib.ListN.{length}
 use Rattle.arguments.specs.Numbers.{digitOf}
 use Rattle.arguments.specs.Words.{upTo}
-use Rattle.arguments.specs.Texts.{bytesOf}
+use Rattle.leaves.specs.Texts.{bytesOf}
 use Rattle.arguments.proofs.numbers.digit.Statement.{statement}
 use Rattle.arguments.proofs.numbers.digit.Tie as tie
 

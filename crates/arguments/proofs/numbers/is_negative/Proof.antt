@@ -4,7 +4,7 @@ use Prim.Native.Nat.{ℕ, _-_}
 use native.Mathlib.Omega.{arith}
 use Rattle.arguments.specs.Numbers.{isNegative}
 use Rattle.arguments.specs.Words.{alike}
-use Rattle.arguments.specs.Texts.{bytesOf}
+use Rattle.leaves.specs.Texts.{bytesOf}
 use Rattle.arguments.proofs.Pieces.{alike-start}
 use Rattle.arguments.proofs.numbers.is_negative.Statement.{statement}
 use Rattle.arguments.proofs.numbers.is_negative.Tie as tie

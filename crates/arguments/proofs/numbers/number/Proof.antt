@@ -7,7 +7,7 @@ use native.Mathlib.Omega.{arith}
 use lib.ListN.{take, drop}
 use Rattle.arguments.specs.Numbers.{digitsOf, numberOf}
 use Rattle.arguments.specs.Words.{alike}
-use Rattle.arguments.specs.Texts.{bytesOf}
+use Rattle.leaves.specs.Texts.{bytesOf}
 use Rattle.arguments.proofs.Pieces.{partOf, part-rest, alike-start}
 use Rattle.arguments.proofs.numbers.number.Statement.{statement}
 use Rattle.arguments.proofs.numbers.number.Tie as tie

@@ -8,7 +8,7 @@ use lib.ListN.{drop, length}
 use lib.Dec.{ltb}
 use Rattle.arguments.specs.Options.{optionNames, optionNamed, standsAlone, faultOf, faultAt}
 use Rattle.arguments.specs.Words.{placeAmong, alike, upTo, itemAt, wordsOf}
-use Rattle.arguments.specs.Texts.{bytesOf}
+use Rattle.leaves.specs.Texts.{bytesOf}
 use Rattle.arguments.proofs.OptionLaws.{words-next}
 use Rattle.arguments.proofs.Pieces.{first-word, words-end, words-at}
 use Rattle.arguments.proofs.options.fault_at.Statement.{statement}

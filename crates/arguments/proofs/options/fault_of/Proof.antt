@@ -9,7 +9,7 @@ use borrow.Author.Tests.{eqb-true, eqb-false, ne-eqb, le-leb, lt-leb}
 use lib.Dec.{lit≤, eqb, leb}
 use Rattle.arguments.specs.Options.{optionNames, optionNamed, isFormat, unless, areMasks, faultOf}
 use Rattle.arguments.specs.Words.{placeAmong, alike}
-use Rattle.arguments.specs.Texts.{bytesOf}
+use Rattle.leaves.specs.Texts.{bytesOf}
 use Rattle.arguments.specs.Numbers.{isNumber, isNumber32, areNumbers}
 use Rattle.arguments.proofs.Pieces.{above}
 use Rattle.arguments.proofs.options.fault_of.Statement.{statement}

@@ -5,7 +5,7 @@ use Prim.Native.Nat.{ℕ}
 use native.Mathlib.Omega.{arith}
 use Rattle.arguments.specs.Options.{optionNames, optionNamed, isGiven, valueOf, intentAsked}
 use Rattle.arguments.specs.Words.{placeAmong, alike, wordsOf}
-use Rattle.arguments.specs.Texts.{bytesOf}
+use Rattle.leaves.specs.Texts.{bytesOf}
 use Rattle.arguments.specs.Numbers.{number32}
 use Rattle.arguments.proofs.options.intent.Statement.{statement}
 use Rattle.arguments.proofs.options.intent.Tie as tie

@@ -4,7 +4,7 @@ use Prim.Native.Nat.{ℕ}
 use native.Mathlib.Omega.{arith}
 use Rattle.arguments.specs.Options.{optionNames, optionNamed}
 use Rattle.arguments.specs.Words.{onto, pieces, itemsOf, placeAmong}
-use Rattle.arguments.specs.Texts.{bytesOf}
+use Rattle.leaves.specs.Texts.{bytesOf}
 use Rattle.arguments.proofs.options.option_at.Statement.{statement}
 use Rattle.arguments.proofs.options.option_at.Tie as tie
 

@@ -8,7 +8,7 @@ use Rattle.leaves.specs.declared.options.CalibratedRgb.{CalibratedRgb}
 use Rattle.leaves.specs.declared.bitfields.BmpBitfields.{BmpBitfields}
 use Rattle.arguments.specs.Options.{optionNames, optionNamed, isGiven, valueOf, masksAsked, calibratedAsked, intentAsked, optionsAsked}
 use Rattle.arguments.specs.Words.{placeAmong, alike, wordsOf}
-use Rattle.arguments.specs.Texts.{bytesOf}
+use Rattle.leaves.specs.Texts.{bytesOf}
 use Rattle.arguments.proofs.options.options_asked.Statement.{statement}
 use Rattle.arguments.proofs.options.options_asked.Tie as tie
 

@@ -7,7 +7,7 @@ use Rattle.leaves.specs.declared.encoder.EncodeSource.{EncodeSource}
 use Rattle.leaves.specs.declared.image.BmpPixelFormat.{BmpPixelFormat}
 use Rattle.arguments.specs.Options.{optionNames, optionNamed, isGiven, valueOf, formatNamed, strideAsked, sourceAsked}
 use Rattle.arguments.specs.Words.{placeAmong, alike, wordsOf}
-use Rattle.arguments.specs.Texts.{bytesOf}
+use Rattle.leaves.specs.Texts.{bytesOf}
 use Rattle.arguments.specs.Numbers.{number32}
 use Rattle.arguments.proofs.options.source_asked.Statement.{statement}
 use Rattle.arguments.proofs.options.source_asked.Tie as tie

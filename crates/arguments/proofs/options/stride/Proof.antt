@@ -7,7 +7,7 @@ use Rattle.leaves.specs.Formats.{bytesPerPixel}
 use Rattle.leaves.specs.declared.image.BmpPixelFormat.{BmpPixelFormat}
 use Rattle.arguments.specs.Options.{optionNames, optionNamed, isGiven, valueOf, strideAsked}
 use Rattle.arguments.specs.Words.{placeAmong, alike, wordsOf}
-use Rattle.arguments.specs.Texts.{bytesOf}
+use Rattle.leaves.specs.Texts.{bytesOf}
 use Rattle.arguments.specs.Numbers.{numberOf}
 use Rattle.arguments.proofs.options.stride.Statement.{statement}
 use Rattle.arguments.proofs.options.stride.Tie as tie

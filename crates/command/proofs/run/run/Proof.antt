@@ -1,7 +1,7 @@
 use mathlib.Core.Path.{_≡_, sym, ap, _∙_}
 use native.Mathlib.Nat.{pos-of-ne-zero}
 use native.Mathlib.Omega.{arith}
-use Rattle.arguments.specs.Texts.{bytesOf}
+use Rattle.leaves.specs.Texts.{bytesOf}
 use Rattle.arguments.specs.Words.{alike}
 use Rattle.command.proofs.CommandLaws.{none-understood, help-understood, all-understood, not-understood}
 use borrow.Author.Needs.{needs}
