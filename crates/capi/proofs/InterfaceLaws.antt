@@ -1,4 +1,4 @@
--- From the writer's promises to the interface's.
+-- From the writer's promises to the interface's, and to what they say of its numbers.
 use mathlib.Core.Path.{_≡_, refl, sym, ap, subst, _∙_}
 use mathlib.Core.List.{List, [], _∷_}
 use Prim.Native.Nat.{ℕ, _+_, _-_, _≤_}
@@ -8,7 +8,8 @@ use Rattle.leaves.specs.declared.encoder.EncodeSource.{EncodeSource}
 use Rattle.leaves.specs.declared.encoder.EncodedBmpFormat.{EncodedBmpFormat}
 use Rattle.leaves.specs.declared.image.BmpPixelFormat.{BmpPixelFormat}
 use Rattle.leaves.specs.declared.options.EncodeOptions.{EncodeOptions}
-use Rattle.leaves.specs.Refusals.{firstOf}
+use Rattle.leaves.specs.Formats.{formatNumber}
+use Rattle.leaves.specs.Refusals.{firstOf, firstNumber}
 use Rattle.format.specs.Demand.{Demand3}
 use Rattle.format.specs.File.{maxFile}
 use Rattle.format.specs.Input.{Input}
@@ -17,7 +18,7 @@ use Rattle.planner.specs.declared.encoder.Encoded.{Encoded}
 use Rattle.planner.specs.declared.encoder.Encoded.the-variants as encoded
 use Rattle.planner.specs.declared.plan.SizeBound.{SizeBound}
 use Rattle.planner.specs.declared.plan.SizeBound.the-variants as sized
-use Rattle.planner.specs.Answers.{encodedNumber, encodedBytes, encodedFormat, boundNumber, boundBytes, Written, Sized}
+use Rattle.planner.specs.Answers.{bytesFor, formatFor, laterFor, boundFor, Written, Sized}
 use Rattle.planner.specs.Calls.{called}
 use Rattle.capi.specs.declared.BmpAnswer.{BmpAnswer}
 use Rattle.capi.specs.declared.BmpOptions.{BmpOptions}
@@ -25,47 +26,38 @@ use Rattle.capi.specs.declared.BmpSource.{BmpSource}
 use Rattle.capi.specs.declared.Layout.{Layout}
 use Rattle.capi.specs.declared.Layout.the-variants.{Known, Unknown}
 use lib.Seq.{getD-append-add}
-use Rattle.capi.specs.Interface.{layouts, layoutAt, formatsNumber, sourceOf, optionsOf, encodedAnswer, boundAnswer, unknownFormat, Encodes, Bounds, EncodePromise, BoundPromise}
+use Rattle.capi.specs.Interface.{layouts, layoutAt, sourceOf, optionsOf, encodedAnswer, boundAnswer, unknownFormat, Encodes, Bounds, EncodePromise, BoundPromise}
 
--- the fields of an answer
-refusal-is : (r : Encoded) → encodedAnswer r .refusal ≡ encodedNumber r
-refusal-is (encoded.File format bytes) = refl
-refusal-is (encoded.Refused why) = refl
+-- the promise of the writing call in numbers alone
+abbrev formatsNumber : List EncodedBmpFormat → ℕ
+formatsNumber [] = 0
+formatsNumber (f ∷ fs) = formatNumber f
 
-bytes-is : (r : Encoded) → encodedAnswer r .bytes ≡ encodedBytes r
-bytes-is (encoded.File format bytes) = refl
-bytes-is (encoded.Refused why) = refl
+abbrev EncodedNumbers : Input → ℕ → List ℕ → List ℕ → BmpAnswer → Type 0
+EncodedNumbers i offset was later a =
+    (a .refusal ≡ firstNumber (writeRows maxFile i (length was) offset))
+    × (a .bytes ≡ bytesFor (firstOf (writeRows maxFile i (length was) offset)) i)
+    × (a .format ≡ formatsNumber (formatFor (firstOf (writeRows maxFile i (length was) offset)) i))
+    × (later ≡ laterFor (firstOf (writeRows maxFile i (length was) offset)) i offset was)
+    × (a .refusal ≡ 0 → Demand3 i (take (a .bytes) (drop offset later)))
 
-format-is : (r : Encoded) → encodedAnswer r .format ≡ formatsNumber (encodedFormat r)
-format-is (encoded.File format bytes) = refl
-format-is (encoded.Refused why) = refl
+encoded-numbers : (i : Input) (offset : ℕ) (was later : List ℕ) (r : Encoded) → Written i offset was later r → EncodedNumbers i offset was later (encodedAnswer r)
+encoded-numbers i offset was later (encoded.File format bytes) w = (w .number, w .bytes, ap formatsNumber (w .format), w .buffer, w .shown)
+encoded-numbers i offset was later (encoded.Refused why) w = (w .number, w .bytes, ap formatsNumber (w .format), w .buffer, w .shown)
 
--- what is written is what the interface promises
-encodes : (i : Input) (offset : ℕ) (was later : List ℕ) (r : Encoded) (a : BmpAnswer) → Written i offset was later r → a ≡ encodedAnswer r → Encodes i offset was later a
-encodes i offset was later r a w e =
-    let number : a .refusal ≡ encodedNumber r = ap (λ (b : BmpAnswer). b .refusal) e ∙ refusal-is r in
-    let bytes : a .bytes ≡ encodedBytes r = ap (λ (b : BmpAnswer). b .bytes) e ∙ bytes-is r in
-    record {
-      number = number ∙ w .number;
-      bytes = bytes ∙ w .bytes;
-      format = ap (λ (b : BmpAnswer). b .format) e ∙ format-is r ∙ ap formatsNumber (w .format);
-      buffer = w .buffer;
-      shown = λ z. subst (λ (n : ℕ). Demand3 i (take n (drop offset later))) (sym bytes) (w .shown (sym number ∙ z));
-    }
+pub encodes-numbers : (i : Input) (offset : ℕ) (was later : List ℕ) (a : BmpAnswer) → Encodes i offset was later a → EncodedNumbers i offset was later a
+encodes-numbers i offset was later a e = subst (EncodedNumbers i offset was later) (sym (e .answer)) (encoded-numbers i offset was later (e .writer) (e .promise))
 
-bounds : (i : Input) (r : SizeBound) (a : BmpAnswer) → Sized i r → a ≡ boundAnswer r → Bounds i a
-bounds i (sized.Bytes bytes) a s e =
-    record {
-      number = ap (λ (b : BmpAnswer). b .refusal) e ∙ s .number;
-      bytes = ap (λ (b : BmpAnswer). b .bytes) e ∙ s .bytes;
-      no-format = ap (λ (b : BmpAnswer). b .format) e;
-    }
-bounds i (sized.Refused why) a s e =
-    record {
-      number = ap (λ (b : BmpAnswer). b .refusal) e ∙ s .number;
-      bytes = ap (λ (b : BmpAnswer). b .bytes) e ∙ s .bytes;
-      no-format = ap (λ (b : BmpAnswer). b .format) e;
-    }
+-- and of the size query
+abbrev BoundNumbers : Input → BmpAnswer → Type 0
+BoundNumbers i a = (a .refusal ≡ firstNumber (planRows maxFile i)) × (a .bytes ≡ boundFor (firstOf (planRows maxFile i)) i) × (a .format ≡ 0)
+
+bound-numbers : (i : Input) (r : SizeBound) → Sized i r → BoundNumbers i (boundAnswer r)
+bound-numbers i (sized.Bytes bytes) s = (s .number, s .bytes, refl)
+bound-numbers i (sized.Refused why) s = (s .number, s .bytes, refl)
+
+pub bounds-numbers : (i : Input) (a : BmpAnswer) → Bounds i a → BoundNumbers i a
+bounds-numbers i a b = subst (BoundNumbers i) (sym (b .answer)) (bound-numbers i (b .writer) (b .promise))
 
 -- a format that is listed
 module _ (l : Layout) (f : BmpPixelFormat) (source : BmpSource) (options : BmpOptions) (plane palette icc linked : List ℕ) (src : EncodeSource) (chosen : EncodeOptions)
@@ -74,15 +66,13 @@ module _ (l : Layout) (f : BmpPixelFormat) (source : BmpSource) (options : BmpOp
       → a ≡ encodedAnswer r → EncodePromise l source options plane palette icc linked offset was later a
   encode-known offset was later r a w e =
       subst (λ (k : Layout). EncodePromise k source options plane palette icc linked offset was later a) known
-      (encodes (called (sourceOf source f) (optionsOf options) plane palette icc linked) offset was later r a
-      (subst (λ (i : Input). Written i offset was later r) (λ z. called (es z) (eo z) plane palette icc linked) w) e)
+      (record { writer = r; promise = subst (λ (i : Input). Written i offset was later r) (λ z. called (es z) (eo z) plane palette icc linked) w; answer = e })
 
   pub bound-known : (r : SizeBound) (a : BmpAnswer) → Sized (called src chosen plane palette icc linked) r → a ≡ boundAnswer r
       → BoundPromise l source options plane palette icc linked a
   bound-known r a s e =
       subst (λ (k : Layout). BoundPromise k source options plane palette icc linked a) known
-      (bounds (called (sourceOf source f) (optionsOf options) plane palette icc linked) r a
-      (subst (λ (i : Input). Sized i r) (λ z. called (es z) (eo z) plane palette icc linked) s) e)
+      (record { writer = r; promise = subst (λ (i : Input). Sized i r) (λ z. called (es z) (eo z) plane palette icc linked) s; answer = e })
 
 -- and one that is not
 pub encode-unknown : (l : Layout) (source : BmpSource) (options : BmpOptions) (plane palette icc linked : List ℕ) (offset : ℕ) (was : List ℕ) → Unknown ≡ l

@@ -2,25 +2,19 @@
 use Prim.Native.Nat.{ℕ}
 use mathlib.Core.Path.{_≡_}
 use mathlib.Core.List.{List, [], _∷_}
-use lib.ListN.{length, take, drop, getD}
-use Rattle.leaves.specs.declared.bitfields.BmpBitfields.{BmpBitfields}
+use lib.ListN.{getD}
 use Rattle.leaves.specs.declared.encoder.EncodeSource.{EncodeSource}
-use Rattle.leaves.specs.declared.encoder.EncodedBmpFormat.{EncodedBmpFormat}
-use Rattle.leaves.specs.declared.encoder.EncodedBmpFormat.the-variants as written
-use Rattle.leaves.specs.declared.error.Check.{Check}
 use Rattle.leaves.specs.declared.image.BmpPixelFormat.{BmpPixelFormat}
 use Rattle.leaves.specs.declared.image.BmpPixelFormat.the-variants as source
 use Rattle.leaves.specs.declared.options.EncodeOptions.{EncodeOptions}
-use Rattle.leaves.specs.Refusals.{numberOf, firstOf, firstNumber}
-use Rattle.format.specs.Demand.{Demand3}
-use Rattle.format.specs.File.{maxFile}
+use Rattle.leaves.specs.Formats.{formatNumber}
+use Rattle.leaves.specs.Refusals.{numberOf}
 use Rattle.format.specs.Input.{Input}
-use Rattle.format.specs.Refusals.{planRows, writeRows}
 use Rattle.planner.specs.declared.encoder.Encoded.{Encoded}
 use Rattle.planner.specs.declared.encoder.Encoded.the-variants as encoded
 use Rattle.planner.specs.declared.plan.SizeBound.{SizeBound}
 use Rattle.planner.specs.declared.plan.SizeBound.the-variants as sized
-use Rattle.planner.specs.Answers.{bytesFor, formatFor, laterFor, boundFor}
+use Rattle.planner.specs.Answers.{Written, Sized}
 use Rattle.planner.specs.Calls.{called}
 use Rattle.capi.specs.declared.Layout.{Layout}
 use Rattle.capi.specs.declared.Layout.the-variants.{Known, Unknown}
@@ -45,26 +39,6 @@ layouts =
 
 unfoldable pub layoutAt : ℕ → Layout
 layoutAt n = getD layouts n Unknown
-
--- the formats that are answered
-abbrev pub formatNumber : EncodedBmpFormat → ℕ
-formatNumber written.Rgb32 = 0
-formatNumber written.Rgb24 = 1
-formatNumber written.Rgb16Rgb = 2
-formatNumber written.Rgb16Bitfields = 3
-formatNumber written.Indexed8 = 4
-formatNumber written.Indexed4 = 5
-formatNumber written.Indexed2 = 6
-formatNumber written.Rle8 = 7
-formatNumber written.Rle4 = 8
-formatNumber written.Indexed1 = 9
-formatNumber written.Bitfields = 10
-formatNumber written.AlphaBitfields = 11
-
--- 0 where no format is answered
-abbrev pub formatsNumber : List EncodedBmpFormat → ℕ
-formatsNumber [] = 0
-formatsNumber (f ∷ fs) = formatNumber f
 
 abbrev pub sourceOf : BmpSource → BmpPixelFormat → EncodeSource
 sourceOf s format =
@@ -105,18 +79,16 @@ boundAnswer (sized.Refused why) = record { bytes = 0; refusal = numberOf why; fo
 abbrev pub unknownFormat : BmpAnswer
 unknownFormat = record { bytes = 0; refusal = 255; format = 0 }
 
--- of a format that is listed: number, bytes, format, later buffer, and demand 3 of the appended bytes
-pub record Encodes (i : Input) (offset : ℕ) (was later : List ℕ) (answer : BmpAnswer) : Type 0 where
-  pub number : answer .refusal ≡ firstNumber (writeRows maxFile i (length was) offset)
-  pub bytes : answer .bytes ≡ bytesFor (firstOf (writeRows maxFile i (length was) offset)) i
-  pub format : answer .format ≡ formatsNumber (formatFor (firstOf (writeRows maxFile i (length was) offset)) i)
-  pub buffer : later ≡ laterFor (firstOf (writeRows maxFile i (length was) offset)) i offset was
-  pub shown : answer .refusal ≡ 0 → Demand3 i (take (answer .bytes) (drop offset later))
+-- of a format that is listed: an answer of the writer with its whole promise, and the same as numbers
+pub record Encodes (i : Input) (offset : ℕ) (was later : List ℕ) (numbers : BmpAnswer) : Type 0 where
+  pub writer : Encoded
+  pub promise : Written i offset was later writer
+  pub answer : numbers ≡ encodedAnswer writer
 
-pub record Bounds (i : Input) (answer : BmpAnswer) : Type 0 where
-  pub number : answer .refusal ≡ firstNumber (planRows maxFile i)
-  pub bytes : answer .bytes ≡ boundFor (firstOf (planRows maxFile i)) i
-  pub no-format : answer .format ≡ 0
+pub record Bounds (i : Input) (numbers : BmpAnswer) : Type 0 where
+  pub writer : SizeBound
+  pub promise : Sized i writer
+  pub answer : numbers ≡ boundAnswer writer
 
 -- the promises: 255 before all else, and nothing changed
 abbrev pub EncodePromise : Layout → BmpSource → BmpOptions → List ℕ → List ℕ → List ℕ → List ℕ → ℕ → List ℕ → List ℕ → BmpAnswer → Type 0

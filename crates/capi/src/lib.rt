@@ -4,11 +4,10 @@ ghost use mathlib.Core.Path.{_≡_};
 ghost use mathlib.Core.List.{[], _∷_};
 ghost use Rattle.leaves.specs.Masks.{bitfieldsRows};
 ghost use Rattle.leaves.specs.Refusals.{firstNumber};
-ghost use Rattle.capi.specs.Interface.{layoutAt, formatNumber, sourceOf, optionsOf, encodedAnswer, boundAnswer, EncodePromise, BoundPromise};
+ghost use Rattle.capi.specs.Interface.{layoutAt, sourceOf, optionsOf, encodedAnswer, boundAnswer, EncodePromise, BoundPromise};
 use leaves::bitfields::BmpBitfields;
 use leaves::bitfields::validate;
 use leaves::encoder::EncodeSource;
-use leaves::encoder::EncodedBmpFormat;
 use leaves::image::BmpPixelFormat;
 use leaves::options::CalibratedRgb;
 use leaves::options::EncodeOptions;
@@ -82,25 +81,6 @@ fn layout_at(format: u32) -> Layout
     }
 }
 
-fn format_number(format: EncodedBmpFormat) -> u32
-    ensures { λ r. ⌜ r ≡ formatNumber format ⌝ }
-{
-    match format {
-        EncodedBmpFormat::Rgb32 => 0,
-        EncodedBmpFormat::Rgb24 => 1,
-        EncodedBmpFormat::Rgb16Rgb => 2,
-        EncodedBmpFormat::Rgb16Bitfields => 3,
-        EncodedBmpFormat::Indexed8 => 4,
-        EncodedBmpFormat::Indexed4 => 5,
-        EncodedBmpFormat::Indexed2 => 6,
-        EncodedBmpFormat::Rle8 => 7,
-        EncodedBmpFormat::Rle4 => 8,
-        EncodedBmpFormat::Indexed1 => 9,
-        EncodedBmpFormat::Bitfields => 10,
-        EncodedBmpFormat::AlphaBitfields => 11,
-    }
-}
-
 fn source_of(source: BmpSource, format: BmpPixelFormat) -> EncodeSource
     ensures { λ r. ⌜ r ≡ sourceOf source format ⌝ }
 {
@@ -147,7 +127,7 @@ fn encode_answer(answer: Encoded) -> BmpAnswer
         Encoded::File(format, bytes) => BmpAnswer {
             bytes: bytes as u64,
             refusal: 0,
-            format: format_number(format),
+            format: format.number(),
         },
         Encoded::Refused(why) => BmpAnswer {
             bytes: 0,

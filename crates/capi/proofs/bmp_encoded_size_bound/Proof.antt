@@ -1,54 +1,38 @@
 use Rattle.capi.proofs.InterfaceLaws.{bound-known, bound-unknown}
 use Rattle.capi.specs.Interface.{layoutAt}
 use denote.Ref.{now}
-use mathlib.Core.Path.{refl, sym, ap, _∙_}
+use mathlib.Core.Path.{sym, _∙_}
 use borrow.Author.Needs.{needs}
 use Rattle.capi.proofs.bmp_encoded_size_bound.Statement.{statement}
 use Rattle.capi.proofs.bmp_encoded_size_bound.Tie as tie
-use Rattle.capi.proofs.bmp_encoded_size_bound.Reads as reads
-use Rattle.capi.proofs.bmp_encoded_size_bound.Lts as lts
-use Rattle.capi.proofs.bound_answer.Reads as bound-answer-reads
-use Rattle.capi.proofs.layout_at.Reads as layout-at-reads
-use Rattle.capi.proofs.options_of.Reads as options-of-reads
-use Rattle.capi.proofs.source_of.Reads as source-of-reads
-use Rattle.planner.proofs.plan.encoded_size_bound.Reads as encoded-size-bound-reads
 
--- src/lib.rt:217:9
 layout-at-requires : tie.Need-layout-at-requires
-layout-at-requires c κs = search needs
+layout-at-requires c κs = tt
 
--- src/lib.rt:218:23
 enum-known-layout : tie.Need-enum-known-layout
 enum-known-layout c = search needs
 
--- src/lib.rt:219:9
 enum-told : tie.Need-enum-told
 enum-told c = search needs
 
--- src/lib.rt:219:9
 returns : tie.Need-returns
 returns c =
     let a = c .before .before .before .before .before .before .before .args in
     let l = layoutAt (a .source .format) in
     bound-unknown l (a .source) (a .options) (now (a .plane)) (now (a .palette)) (now (a .icc)) (now (a .linked-icc)) (sym (c .enum-told .given .1) ∙ c .before .before .layout-at .ensures)
 
--- src/lib.rt:225:9
 source-of-requires : tie.Need-source-of-requires
-source-of-requires c κs = search needs
+source-of-requires c κs = tt
 
--- src/lib.rt:226:9
 options-of-requires : tie.Need-options-of-requires
-options-of-requires c κs = search needs
+options-of-requires c κs = tt
 
--- src/lib.rt:227:9
 encoded-size-bound-requires : tie.Need-encoded-size-bound-requires
-encoded-size-bound-requires c κs = search needs
+encoded-size-bound-requires c κs = tt
 
--- src/lib.rt:228:5
 bound-answer-requires : tie.Need-bound-answer-requires
-bound-answer-requires c κs = search needs
+bound-answer-requires c κs = tt
 
--- src/lib.rt:206:1
 returns-2 : tie.Need-returns-2
 returns-2 c =
     let a = c .before .before .before .before .before .before .before .before .before .before .before .before .args in

@@ -2,60 +2,47 @@ use Rattle.capi.proofs.InterfaceLaws.{none-listed}
 use Rattle.capi.specs.Interface.{layouts, layoutAt}
 use Rattle.capi.proofs.layout_at.Statement.{statement}
 use Rattle.capi.proofs.layout_at.Tie as tie
-use Rattle.capi.proofs.layout_at.Reads as reads
-use Rattle.capi.proofs.layout_at.Lts as lts
 
--- src/lib.rt:67:1
 returns : tie.Need-returns
 unfolding layoutAt layouts
 returns c = rw (c .match .keys1)
 
--- src/lib.rt:67:1
 returns-2 : tie.Need-returns-2
 unfolding layoutAt layouts
 returns-2 c = rw (c .match .keys2)
 
--- src/lib.rt:67:1
 returns-3 : tie.Need-returns-3
 unfolding layoutAt layouts
 returns-3 c = rw (c .match .keys3)
 
--- src/lib.rt:67:1
 returns-4 : tie.Need-returns-4
 unfolding layoutAt layouts
 returns-4 c = rw (c .match .keys4)
 
--- src/lib.rt:67:1
 returns-5 : tie.Need-returns-5
 unfolding layoutAt layouts
 returns-5 c = rw (c .match .keys5)
 
--- src/lib.rt:67:1
 returns-6 : tie.Need-returns-6
 unfolding layoutAt layouts
 returns-6 c = rw (c .match .keys6)
 
--- src/lib.rt:67:1
 returns-7 : tie.Need-returns-7
 unfolding layoutAt layouts
 returns-7 c = rw (c .match .keys7)
 
--- src/lib.rt:67:1
 returns-8 : tie.Need-returns-8
 unfolding layoutAt layouts
 returns-8 c = rw (c .match .keys8)
 
--- src/lib.rt:67:1
 returns-9 : tie.Need-returns-9
 unfolding layoutAt layouts
 returns-9 c = rw (c .match .keys9)
 
--- src/lib.rt:67:1
 returns-10 : tie.Need-returns-10
 unfolding layoutAt layouts
 returns-10 c = rw (c .match .keys10)
 
--- src/lib.rt:67:1
 returns-11 : tie.Need-returns-11
 returns-11 c =
     let r = c .match .rest in

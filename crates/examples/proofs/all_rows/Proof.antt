@@ -1,5 +1,5 @@
 use mathlib.Core.Path.{_≡_}
-use Prim.Native.Nat.{_-_, _/_, _≤_, _<_}
+use Prim.Native.Nat.{_-_, _≤_, _<_}
 use native.Mathlib.Omega.{arith}
 use lib.ListN.{length}
 use Rattle.examples.proofs.all_rows.Statement.{statement}
@@ -11,39 +11,30 @@ Inv-loop four buf₀ h₀ width₀ count₀ buf h width count = (1 ≤ width) ×
 abbrev μ-loop : tie.MeasureT-loop
 μ-loop four buf₀ h₀ width₀ count₀ buf h width count = 8 - width
 
--- src/main.rt:138:9
 slice-aggregate-buf : tie.Need-slice-aggregate-buf Inv-loop μ-loop
 slice-aggregate-buf c = omega arith
 
--- src/main.rt:142:5
 loop-holds : tie.Need-loop-holds Inv-loop μ-loop
 loop-holds c = omega arith
 
--- src/main.rt:143:9
 rows-hash-requires : tie.Need-rows-hash-requires Inv-loop μ-loop
 rows-hash-requires c κs = omega arith
 
--- src/main.rt:144:9
 add-width : tie.Need-add-width Inv-loop μ-loop
 add-width c = omega arith
 
--- src/main.rt:145:17
 mul-count : tie.Need-mul-count Inv-loop μ-loop
 mul-count c = omega arith
 
--- src/main.rt:142:5
 loop-less : tie.Need-loop-less Inv-loop μ-loop
 loop-less c = omega arith
 
--- src/main.rt:142:5
 loop-again : tie.Need-loop-again Inv-loop μ-loop
 loop-again c = omega arith
 
--- src/main.rt:147:5
 number-requires : tie.Need-number-requires Inv-loop μ-loop
 number-requires c κs = omega arith
 
--- src/main.rt:136:1
 returns : tie.Need-returns Inv-loop μ-loop
 returns c = omega arith
 

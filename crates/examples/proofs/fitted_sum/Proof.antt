@@ -1,4 +1,4 @@
-use Prim.Native.Nat.{_-_, _*_, _/_, _≤_}
+use Prim.Native.Nat.{_-_, _*_, _≤_}
 use native.Mathlib.Omega.{arith}
 use Rattle.examples.proofs.fitted_sum.Statement.{statement}
 use Rattle.examples.proofs.fitted_sum.Tie as tie
@@ -9,39 +9,30 @@ Inv-loop n sum₀ sample₀ sum sample = (sample ≤ 256) × (sum ≤ sample * 4
 abbrev μ-loop : tie.MeasureT-loop
 μ-loop n sum₀ sample₀ sum sample = 256 - sample
 
--- src/main.rt:61:5
 loop-holds : tie.Need-loop-holds Inv-loop μ-loop
 loop-holds c = omega arith
 
--- src/main.rt:62:25
 cast-quantise : tie.Need-cast-quantise Inv-loop μ-loop
 cast-quantise c = omega arith
 
--- src/main.rt:62:16
 quantise-requires : tie.Need-quantise-requires Inv-loop μ-loop
 quantise-requires c κs = omega arith
 
--- src/main.rt:62:16
 cast-sum : tie.Need-cast-sum Inv-loop μ-loop
 cast-sum c = omega arith
 
--- src/main.rt:62:9
 add-sum : tie.Need-add-sum Inv-loop μ-loop
 add-sum c = omega arith
 
--- src/main.rt:63:9
 add-sample : tie.Need-add-sample Inv-loop μ-loop
 add-sample c = omega arith
 
--- src/main.rt:61:5
 loop-less : tie.Need-loop-less Inv-loop μ-loop
 loop-less c = omega arith
 
--- src/main.rt:61:5
 loop-again : tie.Need-loop-again Inv-loop μ-loop
 loop-again c = omega arith
 
--- src/main.rt:56:1
 returns : tie.Need-returns Inv-loop μ-loop
 returns c = omega arith
 

@@ -1,4 +1,4 @@
-use Prim.Native.Nat.{_-_, _/_, _≤_}
+use Prim.Native.Nat.{_-_, _≤_}
 use native.Mathlib.Omega.{arith}
 use Rattle.examples.proofs.fitted_sums.Statement.{statement}
 use Rattle.examples.proofs.fitted_sums.Tie as tie
@@ -9,31 +9,24 @@ Inv-loop n₀ n = n ≤ 33
 abbrev μ-loop : tie.MeasureT-loop
 μ-loop n₀ n = 33 - n
 
--- src/main.rt:70:5
 loop-holds : tie.Need-loop-holds Inv-loop μ-loop
 loop-holds c = omega arith
 
--- src/main.rt:71:16
 fitted-sum-requires : tie.Need-fitted-sum-requires Inv-loop μ-loop
 fitted-sum-requires c κs = omega arith
 
--- src/main.rt:71:9
 number-requires : tie.Need-number-requires Inv-loop μ-loop
 number-requires c κs = omega arith
 
--- src/main.rt:72:9
 add-n : tie.Need-add-n Inv-loop μ-loop
 add-n c = omega arith
 
--- src/main.rt:70:5
 loop-less : tie.Need-loop-less Inv-loop μ-loop
 loop-less c = omega arith
 
--- src/main.rt:70:5
 loop-again : tie.Need-loop-again Inv-loop μ-loop
 loop-again c = omega arith
 
--- src/main.rt:68:1
 returns : tie.Need-returns Inv-loop μ-loop
 returns c = omega arith
 

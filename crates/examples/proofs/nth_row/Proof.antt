@@ -1,5 +1,5 @@
 use mathlib.Core.Path.{_≡_}
-use Prim.Native.Nat.{_-_, _/_, _≤_}
+use Prim.Native.Nat.{_-_, _≤_}
 use native.Mathlib.Omega.{arith}
 use lib.ListN.{length, length-set}
 use Rattle.examples.proofs.nth_row.Statement.{statement}
@@ -11,31 +11,24 @@ Inv-loop n row₀ left₀ i₀ row left i = (i ≤ 7) × (length row ≡ 7)
 abbrev μ-loop : tie.MeasureT-loop
 μ-loop n row₀ left₀ i₀ row left i = 7 - i
 
--- src/main.rt:109:5
 loop-holds : tie.Need-loop-holds Inv-loop μ-loop
 loop-holds c = omega arith
 
--- src/main.rt:110:18
 index-requires : tie.Need-index-requires Inv-loop μ-loop
 index-requires c κs = omega arith
 
--- src/main.rt:110:9
 array-write-row : tie.Need-array-write-row Inv-loop μ-loop
 array-write-row c = omega arith
 
--- src/main.rt:112:9
 add-i : tie.Need-add-i Inv-loop μ-loop
 add-i c = omega arith
 
--- src/main.rt:109:5
 loop-less : tie.Need-loop-less Inv-loop μ-loop
 loop-less c = omega arith
 
--- src/main.rt:109:5
 loop-again : tie.Need-loop-again Inv-loop μ-loop
 loop-again c = simp length-set (omega arith)
 
--- src/main.rt:103:1
 returns : tie.Need-returns Inv-loop μ-loop
 returns c = omega arith
 
