@@ -1,8 +1,8 @@
 use Prim.Native.Nat.{_-_, _≤_}
 use native.Mathlib.Omega.{arith}
 use lib.ListN.{length}
-use Rattle.replay.proofs.differing.Statement.{statement}
-use Rattle.replay.proofs.differing.Tie as tie
+use Rattle.replay.proofs.buffer.differing.Statement.{statement}
+use Rattle.replay.proofs.buffer.differing.Tie as tie
 
 abbrev Inv-loop : tie.InvT-loop
 Inv-loop out seed offset file count₀ i₀ count i = (i ≤ length out) × (count ≤ i)

@@ -1,8 +1,8 @@
 use native.Mathlib.Omega.{arith}
 use borrow.Author.Needs.{needs}
 use lib.ListN.{length-take}
-use Rattle.replay.proofs.compared_in_room.Statement.{statement}
-use Rattle.replay.proofs.compared_in_room.Tie as tie
+use Rattle.replay.proofs.cases.compared_in_room.Statement.{statement}
+use Rattle.replay.proofs.cases.compared_in_room.Tie as tie
 
 word-requires : tie.Need-word-requires
 word-requires c κs = search needs

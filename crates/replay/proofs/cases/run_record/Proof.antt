@@ -1,8 +1,8 @@
 use native.Mathlib.Omega.{arith}
 use borrow.Author.Needs.{needs}
 use lib.ListN.{length-take}
-use Rattle.replay.proofs.run_record.Statement.{statement}
-use Rattle.replay.proofs.run_record.Tie as tie
+use Rattle.replay.proofs.cases.run_record.Statement.{statement}
+use Rattle.replay.proofs.cases.run_record.Tie as tie
 
 word-requires : tie.Need-word-requires
 word-requires c κs = search needs

@@ -1,8 +1,8 @@
 use Prim.Native.Nat.{_-_, _≤_}
 use native.Mathlib.Omega.{arith}
 use lib.ListN.{length}
-use Rattle.replay.proofs.group_lines.Statement.{statement}
-use Rattle.replay.proofs.group_lines.Tie as tie
+use Rattle.replay.proofs.groups.group_lines.Statement.{statement}
+use Rattle.replay.proofs.groups.group_lines.Tie as tie
 
 abbrev Inv-loop : tie.InvT-loop
 Inv-loop counts group₀ group = group ≤ length counts

@@ -1,7 +1,7 @@
 use native.Mathlib.Omega.{arith}
 use borrow.Author.Needs.{needs}
-use Rattle.replay.proofs.byte_at.Statement.{statement}
-use Rattle.replay.proofs.byte_at.Tie as tie
+use Rattle.replay.proofs.head.byte_at.Statement.{statement}
+use Rattle.replay.proofs.head.byte_at.Tie as tie
 
 shared-slice-read-result : tie.Need-shared-slice-read-result
 shared-slice-read-result c = search needs

@@ -1,8 +1,8 @@
 use Prim.Native.Nat.{_-_, _≤_}
 use native.Mathlib.Omega.{arith}
 use lib.ListN.{length}
-use Rattle.replay.proofs.hex_bytes.Statement.{statement}
-use Rattle.replay.proofs.hex_bytes.Tie as tie
+use Rattle.replay.proofs.printing.hex_bytes.Statement.{statement}
+use Rattle.replay.proofs.printing.hex_bytes.Tie as tie
 
 abbrev Inv-loop : tie.InvT-loop
 Inv-loop bytes i₀ t3 i = i ≤ length bytes

@@ -1,8 +1,8 @@
 use native.Mathlib.Omega.{arith}
 use borrow.Author.Needs.{needs}
 use lib.ListN.{length-take}
-use Rattle.replay.proofs.read_exactly.Statement.{statement}
-use Rattle.replay.proofs.read_exactly.Tie as tie
+use Rattle.replay.proofs.sample.read_exactly.Statement.{statement}
+use Rattle.replay.proofs.sample.read_exactly.Tie as tie
 
 returns : tie.Need-returns
 returns c = search needs

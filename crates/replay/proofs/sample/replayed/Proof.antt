@@ -2,8 +2,8 @@ use mathlib.Core.Path.{_≡_}
 use Prim.Native.Nat.{_-_, _≤_}
 use native.Mathlib.Omega.{arith}
 use lib.ListN.{length}
-use Rattle.replay.proofs.replayed.Statement.{statement}
-use Rattle.replay.proofs.replayed.Tie as tie
+use Rattle.replay.proofs.sample.replayed.Statement.{statement}
+use Rattle.replay.proofs.sample.replayed.Tie as tie
 
 abbrev Inv-loop : tie.InvT-loop
 Inv-loop cases counts₀ done₀ differ₀ counts done differ = (done ≤ cases) × (differ ≤ done) × (length counts ≡ length counts₀)

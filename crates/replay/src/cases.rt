@@ -1,0 +1,96 @@
+// A case: its calls are run, and what they answer and write is compared with what is expected.
+use crate::answers::Answer;
+use crate::answers::agreed;
+use crate::answers::answered;
+use crate::answers::expected;
+use crate::answers::same;
+use crate::answers::show;
+use crate::buffer::differing;
+use crate::buffer::fill;
+use crate::buffer::space;
+use crate::groups::count;
+use crate::groups::group_of;
+use crate::groups::mode_of;
+use crate::head::options_of;
+use crate::head::source_of;
+use crate::head::word;
+use crate::printing::decimal;
+use crate::printing::mode_name;
+use crate::printing::source_name;
+use crate::printing::text;
+use arguments::words::part;
+
+// Both calls of a case, on the slices that its body holds one behind another.
+fn called(head: &[u8], body: &[u8], out: &mut [u8]) -> Answer {
+    let plane = word(head, 27) as usize;
+    let palette = plane + word(head, 28) as usize;
+    let icc = palette + word(head, 29) as usize;
+    let linked = icc + word(head, 30) as usize;
+    answered(
+        source_of(head),
+        options_of(head),
+        part(body, 0, plane),
+        part(body, plane, palette),
+        part(body, palette, icc),
+        part(body, icc, linked),
+        out,
+        word(head, 24) as usize,
+    )
+}
+
+fn difference_line(head: &[u8], case: u32, wanted: Answer, came: Answer, bytes: usize) {
+    text(b"case ");
+    decimal(case as u64);
+    text(b" differs: ");
+    source_name(word(head, 1) as usize);
+    text(b", ");
+    mode_name(mode_of(source_of(head), options_of(head)));
+    text(b": expected ");
+    show(wanted);
+    text(b"; came ");
+    show(came);
+    text(b"; bytes that differ: ");
+    decimal(bytes as u64);
+    text(b"\n");
+}
+
+// Runs a case in a buffer and answers 1 where something differs, otherwise 0.
+fn compared(case: u32, head: &[u8], body: &[u8], file: &mut [u8], out: &mut [u8]) -> u32 {
+    let wanted = agreed(source_of(head), options_of(head), expected(head), file);
+    let seed = word(head, 26);
+    fill(out, seed);
+    let came = called(head, body, out);
+    let bytes = differing(out, seed, word(head, 24) as usize, file);
+    if same(wanted, came) && bytes == 0 {
+        return 0;
+    }
+    difference_line(head, case, wanted, came, bytes);
+    1
+}
+
+// Runs it in a buffer of the case's length; 2 where that is too long.
+fn compared_in_room(case: u32, head: &[u8], body: &[u8], file: &mut [u8]) -> u32 {
+    let room = word(head, 25) as usize;
+    let mut out_space = space();
+    let out: &mut [u8] = &mut out_space;
+    if room > out.len() {
+        return 2;
+    }
+    compared(case, head, body, file, &mut out[..room])
+}
+
+// Runs a record that was read: 0 where all agrees, 1 where not, 2 where it is malformed.
+pub(crate) fn run_record(
+    case: u32,
+    head: &[u8],
+    body: &[u8],
+    file: &mut [u8],
+    counts: &mut [u32],
+) -> u32 {
+    let size = word(head, 31) as usize;
+    if size > file.len() {
+        return 2;
+    }
+    count(counts, group_of(head, expected(head)));
+    compared_in_room(case, head, body, &mut file[..size])
+}
