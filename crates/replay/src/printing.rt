@@ -21,42 +21,31 @@ pub(crate) fn hex_bytes(bytes: &[u8]) {
     }
 }
 
+// Item n of a list with commas; the last one, at `last`, for every larger n.
+fn listed(names: &[u8], n: usize, last: usize) {
+    let k = if n < last { n } else { last };
+    text(item(names, k, b','));
+}
+
 pub(crate) fn source_name(n: usize) {
-    match n {
-        0 => text(b"Rgba"),
-        1 => text(b"Rgb24"),
-        2 => text(b"Bgra"),
-        3 => text(b"Bgr24"),
-        4 => text(b"Rgb555"),
-        5 => text(b"Rgb565"),
-        6 => text(b"Pal8"),
-        7 => text(b"Indexed4"),
-        8 => text(b"Indexed2"),
-        _ => text(b"Indexed1"),
-    }
+    listed(
+        b"Rgba,Rgb24,Bgra,Bgr24,Rgb555,Rgb565,Pal8,Indexed4,Indexed2,Indexed1",
+        n,
+        9,
+    );
 }
 
 pub(crate) fn mode_name(n: usize) {
-    match n {
-        0 => text(b"no mode"),
-        1 => text(b"masks of 16 bits"),
-        2 => text(b"masks of 16 bits with alpha"),
-        3 => text(b"masks of 32 bits"),
-        4 => text(b"masks of 32 bits with alpha"),
-        5 => text(b"calibrated"),
-        6 => text(b"embedded profile"),
-        7 => text(b"linked profile"),
-        8 => text(b"both profiles"),
-        9 => text(b"profile not embedded"),
-        10 => text(b"several modes"),
-        _ => text(b"masks of another depth"),
-    }
+    let names = b"no mode,masks of 16 bits,masks of 16 bits with alpha,masks of 32 bits,\
+        masks of 32 bits with alpha,calibrated,embedded profile,linked profile,both profiles,\
+        profile not embedded,several modes,masks of another depth";
+    listed(names, n, 11);
 }
 
 // What a file was written as, by number.
 pub(crate) fn written_name(n: usize) {
     let names = written_names();
-    text(item(&names, n, b','));
+    listed(&names, n, 11);
 }
 
 // The answers that are counted apart: 0 to 11 the formats, 12 to 15 stored rows where a stream was as long
