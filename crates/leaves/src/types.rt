@@ -5,9 +5,7 @@ ghost use Rattle.leaves.specs.Sizes.{rowStride};
 // 'BM', low byte first.
 pub const BMP_MAGIC: u16 = 0x4D42;
 
-// Bytes of each header.
-pub const BITMAPFILEHEADER_SIZE: u32 = 14;
-
+// Bytes of each info header.
 pub const BITMAPINFOHEADER_SIZE: u32 = 40;
 
 pub const BITMAPV4HEADER_SIZE: u32 = 108;
