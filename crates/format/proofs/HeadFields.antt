@@ -61,12 +61,12 @@ first-fields size off hs w h d c im x y n rest a b e g i j k = λ z. record {
 -- ---- the numbers are small
 
 -- a choice of two small numbers is small
-choice-le : (b : Bool) (x y n : ℕ) → x ≤ n → y ≤ n → cond b x y ≤ n
+pub choice-le : (b : Bool) (x y n : ℕ) → x ≤ n → y ≤ n → cond b x y ≤ n
 choice-le true x y n h k = h
 choice-le false x y n h k = k
 
 -- a header has at most 124 bytes
-header-le : (m : Mode) (f : BmpPixelFormat) → headerSize m f ≤ 124
+pub header-le : (m : Mode) (f : BmpPixelFormat) → headerSize m f ≤ 124
 header-le Masked f = omega arith
 header-le Calibrated f = omega arith
 header-le Profiled f = omega arith

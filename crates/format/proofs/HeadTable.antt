@@ -33,7 +33,7 @@ use Rattle.format.specs.Expectation.{coloursShown, paletteShown}
 use Rattle.format.specs.Shown.{rgb}
 use Rattle.format.specs.Readers.{Fields, fieldsOf, tableCount, paletteOf}
 use Rattle.leaves.proofs.ListLaws.{tab-ext, getD-cat}
-use Rattle.leaves.proofs.TableCounts.{written-le, written-some}
+use Rattle.leaves.proofs.TableCounts.{entries-le, written-le, written-some}
 
 -- ---- lengths of the longer headers
 
@@ -93,8 +93,22 @@ header-fills s o nine three Plain never = go (isRgb565 (s .format))
 
 -- ---- the table's count
 
+-- direct colour has no entries
+pub entries-direct : (f : BmpPixelFormat) (n : ℕ) (minimal : Bool) → isIndexed f ≡ false → 0 ≡ tableEntries f n minimal
+unfolding tableEntries
+entries-direct f n minimal e = rw e
+
+-- there are at most 256
+pub entries-small : (f : BmpPixelFormat) (n : ℕ) (minimal : Bool) → tableEntries f n minimal ≤ 256
+unfolding tableEntries
+entries-small f n minimal = go (isIndexed f)
+  where
+    go : (b : Bool) → cond b (writtenPaletteEntries (bitsPerPixel f) (n / 4) minimal) 0 ≤ 256
+    go true = omega (arith, written-le (bitsPerPixel f) (n / 4) minimal, entries-le (bitsPerPixel f))
+    go false = omega arith
+
 -- an indexed source cannot take masks
-indexed-refused : (f : BmpPixelFormat) → isIndexed f ≡ true → maskSource f ≡ false → ⊥
+pub indexed-refused : (f : BmpPixelFormat) → isIndexed f ≡ true → maskSource f ≡ false → ⊥
 indexed-refused Rgba e h = absurd (false≢true e)
 indexed-refused Rgb24 e h = absurd (false≢true e)
 indexed-refused Bgra e h = absurd (false≢true e)

@@ -31,13 +31,14 @@ use Rattle.format.specs.Layout.{headerSize, headRest, headLen, rawLen, rowsComp
 use Rattle.format.proofs.Acceptance.{Checked, rows-long, plan-passed}
 use Rattle.format.proofs.FileSizes.{pack-ok}
 use Rattle.format.proofs.HeadFields.{length-head}
+use Rattle.format.proofs.HeadTable.{entries-small}
 use Rattle.format.proofs.Modes.{both, coded-cases, PlannedIn, planned-in, used-in, tail-empty, no-tail}
 use Rattle.format.proofs.PlainBody.{pack-bytes}
 use Rattle.planner.specs.declared.encoder.Encoded.the-variants as encoded
 use Rattle.planner.specs.declared.plan.Sizes.{Sizes}
 use Rattle.planner.specs.Plans.{sizesBy, layoutIn, sizesOf, Planned, Streamed, firstFields, headBy}
 use Rattle.planner.proofs.HeadLaws.{put-next}
-use Rattle.planner.proofs.LayoutLaws.{coding-planned, entries-small}
+use Rattle.planner.proofs.LayoutLaws.{coding-planned}
 
 -- ---- sizes
 

@@ -2,7 +2,7 @@
 use mathlib.Core.Path.{_≡_, refl, sym, ap, _∙_}
 use mathlib.Core.Bool.{Bool, true, false, not, cond, _&&_, false≢true}
 use mathlib.Core.List.{List}
-use Prim.Native.Nat.{ℕ, _+_, _*_, _/_, _≤_, _<_}
+use Prim.Native.Nat.{ℕ, _+_, _*_, _≤_, _<_}
 use native.Mathlib.Omega.{arith}
 use borrow.Author.Tests.{eqb-true, eqb-false}
 use lib.Dec.{eqb}
@@ -12,10 +12,8 @@ use Rattle.leaves.specs.declared.encoder.EncodeSource.{EncodeSource}
 use Rattle.leaves.specs.declared.encoder.EncodedBmpFormat.{EncodedBmpFormat}
 use Rattle.leaves.specs.declared.image.BmpPixelFormat.{BmpPixelFormat}
 use Rattle.leaves.specs.declared.options.EncodeOptions.{EncodeOptions}
-use Rattle.leaves.specs.Formats.{bitsPerPixel, isIndexed, isRgb565, plainToken}
+use Rattle.leaves.specs.Formats.{bitsPerPixel, isRgb565, plainToken}
 use Rattle.leaves.specs.Masks.{count, lowest, isOneRun, hasAlphaMask, maskCompression, ShiftLen}
-use Rattle.leaves.specs.Refusals.{profileMode}
-use Rattle.leaves.specs.Sizes.{writtenPaletteEntries}
 use Rattle.rows.specs.declared.masks.MaskLayout.{MaskLayout}
 use Rattle.rows.specs.declared.pack.RowPack.{RowPack}
 use Rattle.format.specs.declared.layout.Coding.{Coding}
@@ -24,8 +22,7 @@ use Rattle.format.specs.declared.layout.Layout.{Layout}
 use Rattle.format.specs.declared.layout.Mode.{Mode}
 use Rattle.format.specs.declared.layout.Mode.the-variants.{Masked, Calibrated, Profiled, Plain}
 use Rattle.format.specs.Layout.{modeOf, isMasked, isPlain, depthOf, channelOf, channelsOf, plainPack, maskPack, packOf, tableEntries, headerSize, headRest, headLen, plainCompression, rowsCompression, maskFormat, rowsFormat, codingAt, isStream, coded, wantsRle, codingOf, layoutOf}
-use Rattle.leaves.proofs.TableCounts.{entries-le, written-le}
-use Rattle.format.proofs.HeadTable.{mask-tail, header-fills}
+use Rattle.format.proofs.HeadTable.{mask-tail, header-fills, entries-small}
 use Rattle.format.proofs.Modes.{given-mode}
 
 -- ---- masks
@@ -49,17 +46,6 @@ channels-are d masks l runs e r g b a =
     let blue = channel-is (getD masks 2 0) (l .b) b (runs 2 (omega arith)) in
     let alpha = channel-is (getD masks 3 0) (l .a) a (runs 3 (omega arith)) in
     λ z. record { bpp = e z; r = red z; g = green z; b = blue z; a = alpha z }
-
--- ---- the colour table
-
--- there are at most 256 entries
-pub entries-small : (f : BmpPixelFormat) (n : ℕ) (minimal : Bool) → tableEntries f n minimal ≤ 256
-unfolding tableEntries
-entries-small f n minimal = go (isIndexed f)
-  where
-    go : (b : Bool) → cond b (writtenPaletteEntries (bitsPerPixel f) (n / 4) minimal) 0 ≤ 256
-    go true = omega (arith, written-le (bitsPerPixel f) (n / 4) minimal, entries-le (bitsPerPixel f))
-    go false = omega arith
 
 -- ---- streams
 

@@ -104,9 +104,9 @@ on rows m k f h =
 pub from : {A : Type 0} (rows : List (Bool × Refusal)) (m n k : Run A) → m ≡ n → Follows rows n k → Follows rows m k
 from rows m n k e h = subst (λ (r : Run _). Follows rows r k) (sym e) h
 
--- what it comes to, said otherwise
-pub to : {A : Type 0} (rows : List (Bool × Refusal)) (m k l : Run A) → Follows rows m k → k ≡ l → Follows rows m l
-to rows m k l h e = subst (λ (r : Run _). Follows rows m r) e h
+-- what it comes to where no row applies, said otherwise
+pub to : {A : Type 0} (rows : List (Bool × Refusal)) (m k l : Run A) → Follows rows m k → (firstOf rows ≡ Passed → k ≡ l) → Follows rows m l
+to rows m k l h e = record { passed = λ p. h .passed p ∙ e p; refused = h .refused }
 
 -- its answer is the document's
 pub answered : {A : Type 0} (rows : List (Bool × Refusal)) (m : Run A) (a : A) → Follows rows m (done a) → outcome m ≡ answer (firstOf rows) a

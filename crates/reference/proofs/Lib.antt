@@ -2,6 +2,7 @@ pub mod Examples
 pub mod RunLaws
 pub mod Follows
 pub mod Slices
+pub mod Original
 pub mod QuantiseLaws
 pub mod IndexLaws
 pub mod PackingLaws
@@ -18,4 +19,6 @@ pub mod SizeLaws
 pub mod PlanSizes
 pub mod WriteLaws
 pub mod FileLaws
+pub mod Bridge
 pub mod Theorem
+pub mod PortCalls

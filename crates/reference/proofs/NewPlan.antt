@@ -1,45 +1,50 @@
 -- Plan::new follows the rows 1 to 13, and ends with the sizes of the document's head over the document's rows.
 use mathlib.Core.Path.{_≡_, refl, sym, ap, _∙_, subst}
 use mathlib.Core.Bool.{Bool, true, false, not, cond, _&&_, _||_, false≢true}
-use mathlib.Core.Logic.{_⊎_, inl, inr}
 use mathlib.Core.List.{List, [], _∷_, _++_}
-use Prim.Native.Nat.{ℕ, zero, _+_, _-_, _*_, _/_, _^_, _≤_, _<_, min, max}
-use native.Mathlib.Nat.{min-eq-left, min-eq-right, max-eq-left, max-eq-right}
+use mathlib.Core.Logic.{_⊎_, inl, inr}
+use Prim.Native.Nat.{ℕ, zero, _+_, _-_, _*_, _/_, _%_, _^_, _≤_, _<_, min, max}
 use native.Mathlib.Omega.{arith}
-use borrow.Author.Tests.{ltb-true, ltb-false}
-use lib.Dec.{ltb}
+use borrow.Author.Tests.{ltb-true, ltb-false, eqb-true, not-false}
+use lib.Dec.{eqb, ltb}
 use lib.ListN.{length, getD, take, drop, replicate}
 use Rattle.leaves.specs.declared.image.BmpPixelFormat.{BmpPixelFormat}
 use Rattle.leaves.specs.declared.image.BmpPixelFormat.the-variants as source
 use Rattle.leaves.specs.declared.encoder.EncodedBmpFormat.{EncodedBmpFormat}
-use Rattle.leaves.specs.declared.encoder.EncodedBmpFormat.the-variants as written
 use Rattle.leaves.specs.declared.error.Refusal.{Refusal}
 use Rattle.leaves.specs.declared.error.Refusal.the-variants.{ZeroDimension, DimensionTooLarge, PaletteMissing, PaletteNotQuads, SeveralModes, MaskSource, FileTooLarge}
 use Rattle.leaves.specs.declared.error.Check.the-variants.{Passed, Refused}
 use Rattle.leaves.specs.Formats as formats
-use Rattle.leaves.specs.Masks.{isOneRun, hasAlphaMask, bitfieldsRows}
+use Rattle.leaves.specs.Formats.{maskSource}
+use Rattle.leaves.specs.Masks.{isOneRun, bitfieldsRows}
 use Rattle.leaves.specs.Refusals.{numberOf, checkNumber, firstOf, firstNumber, profileMode, one, dimensionTooLarge, paletteMissing, paletteNotQuads, dimensionRows, paletteRows, modeRows, planeRows}
 use Rattle.leaves.specs.Sizes as counts
 use Rattle.leaves.proofs.ListLaws.{length-tab}
-use Rattle.format.specs.File.{Mode, masked, calibrated, profiled, plain, modeOf, tailOf, depthIn, plainPack, packIn, layoutOf, entriesOf}
+use Rattle.format.specs.declared.layout.Mode.{Mode}
+use Rattle.format.specs.declared.layout.Mode.the-variants.{Masked, Calibrated, Profiled, Plain}
+use Rattle.format.specs.File.{modeIn, depthIn, packIn, entriesOf}
+use Rattle.format.specs.Layout as layout
+use Rattle.format.specs.Layout.{modeOf, isMasked, channelsOf, plainPack, maskPack, tableEntries, maskFormat}
+use Rattle.format.specs.Accepted.{MasksAccepted}
 use Rattle.format.specs.Input.{Input}
-use Rattle.format.specs.Refusals.{maskSource, givenMasksRows, checkRows, fileTooLarge, planRows}
+use Rattle.format.specs.Refusals.{givenMasksRows, checkRows, callRows, fileTooLarge, planRows}
 use Rattle.leaves.proofs.FirstOf.{first-pass, first-stop}
 use Rattle.leaves.specs.Refusals as rows
 use Rattle.format.proofs.Acceptance.{masks-accepted, given-masks}
-use Rattle.format.proofs.Modes.{masks-given}
+use Rattle.format.proofs.FileSizes.{pack-ok}
+use Rattle.format.proofs.HeadFields.{depth-le}
+use Rattle.format.proofs.PlainBody.{pack-bytes}
 use Rattle.format.proofs.Passing.{first-parts, row-parts}
 use Rattle.reference.specs.Rust.{zeroDimension, requiresPalette, mutuallyExclusive, bitfieldsSource, Run, done, fails, panics, _>>=_, _>>_, some, none, failIf, okOr, isSome, add}
-use Rattle.reference.specs.Types.{BmpBitfields, Palette, EncodeSource, EncodeOptions, bytesPerPixel, bitsPerPixel, isIndexed, blueFirst, plainToken}
+use Rattle.reference.specs.Types.{BmpBitfields, Palette, EncodeSource, EncodeOptions, bitsPerPixel, isIndexed, blueFirst, plainToken}
 use Rattle.reference.specs.Bitfields.{validate}
 use Rattle.reference.specs.Packing.{RowPack, packBits, sourceBytes, newLayout, packMasks, Rows, newRows}
 use Rattle.reference.specs.Packing as Packing
-use Rattle.reference.specs.Headers.{paletteEntryCount}
 use Rattle.reference.specs.Plan.{ColourHeader, Head, Sizes, Plan, writtenPaletteEntries, sizesOf, maxFile, assemble, plainIndexed, plainHead, planBitfields, colourIndexed, colourHead, colourRows, fromBool, profileOf, planFor, newPlan}
 use Rattle.reference.specs.Plan as reference
 use Rattle.reference.specs.Compared.{given, entriesIn, masksOf, sourceOf, optionsOf, Typed, Domain}
 use Rattle.reference.proofs.RunLaws.{add-is}
-use Rattle.reference.proofs.PackingLaws.{packOf}
+use Rattle.reference.proofs.PackingLaws.{packOf, same-bits, same-bytes}
 use Rattle.reference.proofs.PackingLaws.{layoutOf as layoutIn}
 use Rattle.reference.proofs.QuantiseLaws.{shift-len-is}
 use Rattle.reference.proofs.ValidateLaws.{validated}
@@ -52,22 +57,22 @@ use Rattle.reference.proofs.Follows.{Follows}
 -- ---- the formats' tables are the document's
 
 pub record SameTables (f : BmpPixelFormat) : Type 0 where
-  pub bytes : bytesPerPixel f ≡ formats.bytesPerPixel f
   pub bits : bitsPerPixel f ≡ formats.bitsPerPixel f
   pub indexed : isIndexed f ≡ formats.isIndexed f
   pub token : plainToken f ≡ formats.plainToken f
+  pub few : formats.bytesPerPixel f ≤ 4
 
 pub tables : (f : BmpPixelFormat) → SameTables f
-tables source.Rgba = record { bytes = refl; bits = refl; indexed = refl; token = refl }
-tables source.Rgb24 = record { bytes = refl; bits = refl; indexed = refl; token = refl }
-tables source.Bgra = record { bytes = refl; bits = refl; indexed = refl; token = refl }
-tables source.Bgr24 = record { bytes = refl; bits = refl; indexed = refl; token = refl }
-tables source.Rgb555 = record { bytes = refl; bits = refl; indexed = refl; token = refl }
-tables source.Rgb565 = record { bytes = refl; bits = refl; indexed = refl; token = refl }
-tables source.Pal8 = record { bytes = refl; bits = refl; indexed = refl; token = refl }
-tables source.Indexed4 = record { bytes = refl; bits = refl; indexed = refl; token = refl }
-tables source.Indexed2 = record { bytes = refl; bits = refl; indexed = refl; token = refl }
-tables source.Indexed1 = record { bytes = refl; bits = refl; indexed = refl; token = refl }
+tables source.Rgba = record { bits = refl; indexed = refl; token = refl; few = omega arith }
+tables source.Rgb24 = record { bits = refl; indexed = refl; token = refl; few = omega arith }
+tables source.Bgra = record { bits = refl; indexed = refl; token = refl; few = omega arith }
+tables source.Bgr24 = record { bits = refl; indexed = refl; token = refl; few = omega arith }
+tables source.Rgb555 = record { bits = refl; indexed = refl; token = refl; few = omega arith }
+tables source.Rgb565 = record { bits = refl; indexed = refl; token = refl; few = omega arith }
+tables source.Pal8 = record { bits = refl; indexed = refl; token = refl; few = omega arith }
+tables source.Indexed4 = record { bits = refl; indexed = refl; token = refl; few = omega arith }
+tables source.Indexed2 = record { bits = refl; indexed = refl; token = refl; few = omega arith }
+tables source.Indexed1 = record { bits = refl; indexed = refl; token = refl; few = omega arith }
 
 -- ---- entries
 
@@ -75,18 +80,14 @@ clamp-is : (n full : ℕ) → 1 ≤ full → cond (ltb n 1) 1 (cond (ltb full n)
 clamp-is n full h = go (ltb n 1) refl (ltb full n) refl
   where
     go : (a : Bool) → ltb n 1 ≡ a → (b : Bool) → ltb full n ≡ b → cond a 1 (cond b full n) ≡ min (max 1 n) full
-    go true p b q = let m : max 1 n ≡ 1 = max-eq-left (omega (arith, ltb-true n 1 p)) in rw m (sym (min-eq-left h))
-    go false p true q =
-        let m : max 1 n ≡ n = max-eq-right (ltb-false n 1 p) in
-        rw m (sym (min-eq-right (omega (arith, ltb-true full n q))))
-    go false p false q =
-        let m : max 1 n ≡ n = max-eq-right (ltb-false n 1 p) in
-        rw m (sym (min-eq-left (ltb-false full n q)))
+    go true p b q = omega (arith, ltb-true n 1 p)
+    go false p true q = omega (arith, ltb-false n 1 p, ltb-true full n q)
+    go false p false q = omega (arith, ltb-false n 1 p, ltb-false full n q)
 
 -- written_palette_entries is the document's count
 entries-is : (i : Input) (bpp : ℕ) → formats.isIndexed (i .source .format) ≡ true → formats.bitsPerPixel (i .source .format) ≡ bpp → 1 ≤ counts.paletteEntryCount bpp
     → writtenPaletteEntries bpp (paletteIn i) (optionsOf i) ≡ entriesOf i
-unfolding writtenPaletteEntries entriesOf counts.writtenPaletteEntries entriesIn optionsOf
+unfolding writtenPaletteEntries tableEntries counts.writtenPaletteEntries entriesIn optionsOf
 entries-is i bpp indexed bits full =
     let n : length (entriesIn (i .palette)) ≡ length (i .palette) / 4 = length-tab (λ k. take 4 (drop (k * 4) (i .palette))) (length (i .palette) / 4) in
     rw (indexed, bits, count-is bpp, n, clamp-is (length (i .palette) / 4) (counts.paletteEntryCount bpp) full)
@@ -94,78 +95,60 @@ entries-is i bpp indexed bits full =
 -- ---- the heads and packs of each format
 
 module _ (i : Input) (palette : formats.isIndexed (i .source .format) ≡ true → i .source .«has_palette» ≡ true) where
-  -- the indexed arms
-  plain-indexed : (bpp : ℕ) → formats.isIndexed (i .source .format) ≡ true → bitsPerPixel (i .source .format) ≡ bpp → 1 ≤ counts.paletteEntryCount bpp
-      → plainIndexed (sourceOf i) (optionsOf i) ≡ done (reference.V3Indexed bpp (paletteIn i) (entriesOf i) (reference.rleFor (i .source .format) (optionsOf i)), Packing.Indexed bpp)
-  unfolding plainIndexed sourceOf
-  plain-indexed bpp indexed bits full =
-      let same : formats.bitsPerPixel (i .source .format) ≡ bpp = sym (tables (i .source .format) .bits) ∙ bits in
-      let rle = reference.rleFor (i .source .format) (optionsOf i) in
-      let arm : ℕ → Palette → Run (Head × RowPack) = λ d p. done (reference.V3Indexed d p (writtenPaletteEntries d p (optionsOf i)) rle, Packing.Indexed d) in
-      ap (λ b. okOr (given b (paletteIn i)) requiresPalette >>= arm (bitsPerPixel (i .source .format))) (palette indexed)
-      ∙ ap (λ d. arm d (paletteIn i)) bits
-      ∙ ap (λ n. done (reference.V3Indexed bpp (paletteIn i) n rle, Packing.Indexed bpp)) (entries-is i bpp indexed same full)
+  -- the indexed arms: what is made of the depth, the palette and its entries
+  indexed-arm : {A : Type 0} (arm : ℕ → Palette → ℕ → A) (f : BmpPixelFormat) → i .source .format ≡ f → formats.isIndexed f ≡ true → 1 ≤ counts.paletteEntryCount (bitsPerPixel f)
+      → (okOr (sourceOf i .palette) requiresPalette >>= λ p. done (arm (bitsPerPixel (i .source .format)) p (writtenPaletteEntries (bitsPerPixel (i .source .format)) p (optionsOf i))))
+      ≡ done (arm (bitsPerPixel f) (paletteIn i) (entriesOf i))
+  unfolding sourceOf
+  indexed-arm {A} arm f e indexed full =
+      let d : bitsPerPixel (i .source .format) ≡ bitsPerPixel f = ap bitsPerPixel e in
+      let b : formats.isIndexed (i .source .format) ≡ true = ap formats.isIndexed e ∙ indexed in
+      let all : ℕ → Palette → Run A = λ n p. done (arm n p (writtenPaletteEntries n p (optionsOf i))) in
+      ap (λ t. okOr (given t (paletteIn i)) requiresPalette >>= all (bitsPerPixel (i .source .format))) (palette b)
+      ∙ ap (λ n. all n (paletteIn i)) d
+      ∙ ap (λ n. done (arm (bitsPerPixel f) (paletteIn i) n)) (entries-is i (bitsPerPixel f) b (sym (tables (i .source .format) .bits) ∙ d) full)
 
-  colour-indexed : (bpp : ℕ) → formats.isIndexed (i .source .format) ≡ true → bitsPerPixel (i .source .format) ≡ bpp → 1 ≤ counts.paletteEntryCount bpp
-      → colourIndexed (sourceOf i) (optionsOf i) ≡ done (Packing.Indexed bpp, record { bpp = bpp; compression = 0; masks = replicate 4 0; table = some (paletteIn i, entriesOf i) })
-  unfolding colourIndexed sourceOf
-  colour-indexed bpp indexed bits full =
-      let same : formats.bitsPerPixel (i .source .format) ≡ bpp = sym (tables (i .source .format) .bits) ∙ bits in
-      let header : ℕ → Palette → ℕ → Run (RowPack × ColourHeader) = λ d p n. done (Packing.Indexed d, record { bpp = d; compression = 0; masks = replicate 4 0; table = some (p, n) }) in
-      let arm : ℕ → Palette → Run (RowPack × ColourHeader) = λ d p. header d p (writtenPaletteEntries d p (optionsOf i)) in
-      ap (λ b. okOr (given b (paletteIn i)) requiresPalette >>= arm (bitsPerPixel (i .source .format))) (palette indexed)
-      ∙ ap (λ d. arm d (paletteIn i)) bits
-      ∙ ap (header bpp (paletteIn i)) (entries-is i bpp indexed same full)
+  -- head and pack of a plain file, and pack and header of a calibrated or profiled one
+  abbrev Chooses : BmpPixelFormat → Type 0
+  Chooses f =
+      (plainHead f (sourceOf i) (optionsOf i) ≡ done (plainHeadFor f i, packOf (plainPack f))) × (colourHead f (sourceOf i) (optionsOf i) ≡ done (packOf (plainPack f), colourHeaderFor f i))
 
-  plain-head : plainHead (i .source .format) (sourceOf i) (optionsOf i) ≡ done (plainHeadFor (i .source .format) i, packOf (plainPack (i .source .format)))
-  unfolding plainHead counts.paletteEntryCount
-  plain-head = go (i .source .format) refl
+  chosen-heads : Chooses (i .source .format)
+  unfolding plainHead plainIndexed colourHead colourIndexed sourceOf counts.paletteEntryCount
+  chosen-heads = go (i .source .format) refl
     where
-      indexed : (f : BmpPixelFormat) (bpp : ℕ) → i .source .format ≡ f → formats.isIndexed f ≡ true → bitsPerPixel f ≡ bpp → 1 ≤ counts.paletteEntryCount bpp
-          → plainIndexed (sourceOf i) (optionsOf i) ≡ done (reference.V3Indexed bpp (paletteIn i) (entriesOf i) (reference.rleFor f (optionsOf i)), Packing.Indexed bpp)
-      indexed f bpp e b d full =
-          plain-indexed bpp (ap formats.isIndexed e ∙ b) (ap bitsPerPixel e ∙ d) full
-          ∙ ap (λ g. done (reference.V3Indexed bpp (paletteIn i) (entriesOf i) (reference.rleFor g (optionsOf i)), Packing.Indexed bpp)) e
+      indexed : (f : BmpPixelFormat) → i .source .format ≡ f → formats.isIndexed f ≡ true → 1 ≤ counts.paletteEntryCount (bitsPerPixel f)
+          → (plainIndexed (sourceOf i) (optionsOf i) ≡ done (reference.V3Indexed (bitsPerPixel f) (paletteIn i) (entriesOf i) (reference.rleFor f (optionsOf i)), Packing.Indexed (bitsPerPixel f)))
+          × (colourIndexed (sourceOf i) (optionsOf i) ≡ done (Packing.Indexed (bitsPerPixel f), record { bpp = bitsPerPixel f; compression = 0; masks = replicate 4 0; table = some (paletteIn i, entriesOf i) }))
+      indexed f e b full = (
+        indexed-arm (λ d p n. (reference.V3Indexed d p n (reference.rleFor (i .source .format) (optionsOf i)), Packing.Indexed d)) f e b full
+            ∙ ap (λ g. done (reference.V3Indexed (bitsPerPixel f) (paletteIn i) (entriesOf i) (reference.rleFor g (optionsOf i)), Packing.Indexed (bitsPerPixel f))) e,
+        indexed-arm (λ d p n. (Packing.Indexed d, record { bpp = d; compression = 0; masks = replicate 4 0; table = some (p, n) })) f e b full,
+      )
 
-      go : (f : BmpPixelFormat) → i .source .format ≡ f → plainHead f (sourceOf i) (optionsOf i) ≡ done (plainHeadFor f i, packOf (plainPack f))
-      go source.Rgba e = refl
-      go source.Rgb24 e = refl
-      go source.Bgra e = refl
-      go source.Bgr24 e = refl
-      go source.Rgb555 e = refl
-      go source.Rgb565 e = refl
-      go source.Pal8 e = indexed source.Pal8 8 e refl refl (omega arith)
-      go source.Indexed4 e = indexed source.Indexed4 4 e refl refl (omega arith)
-      go source.Indexed2 e = indexed source.Indexed2 2 e refl refl (omega arith)
-      go source.Indexed1 e = indexed source.Indexed1 1 e refl refl (omega arith)
-
-  colour-head : colourHead (i .source .format) (sourceOf i) (optionsOf i) ≡ done (packOf (plainPack (i .source .format)), colourHeaderFor (i .source .format) i)
-  unfolding colourHead counts.paletteEntryCount
-  colour-head = go (i .source .format) refl
-    where
-      go : (f : BmpPixelFormat) → i .source .format ≡ f → colourHead f (sourceOf i) (optionsOf i) ≡ done (packOf (plainPack f), colourHeaderFor f i)
-      go source.Rgba e = refl
-      go source.Rgb24 e = refl
-      go source.Bgra e = refl
-      go source.Bgr24 e = refl
-      go source.Rgb555 e = refl
-      go source.Rgb565 e = refl
-      go source.Pal8 e = colour-indexed 8 (ap formats.isIndexed e) (ap bitsPerPixel e) (omega arith)
-      go source.Indexed4 e = colour-indexed 4 (ap formats.isIndexed e) (ap bitsPerPixel e) (omega arith)
-      go source.Indexed2 e = colour-indexed 2 (ap formats.isIndexed e) (ap bitsPerPixel e) (omega arith)
-      go source.Indexed1 e = colour-indexed 1 (ap formats.isIndexed e) (ap bitsPerPixel e) (omega arith)
+      go : (f : BmpPixelFormat) → i .source .format ≡ f → Chooses f
+      go source.Rgba e = (refl, refl)
+      go source.Rgb24 e = (refl, refl)
+      go source.Bgra e = (refl, refl)
+      go source.Bgr24 e = (refl, refl)
+      go source.Rgb555 e = (refl, refl)
+      go source.Rgb565 e = (refl, refl)
+      go source.Pal8 e = indexed source.Pal8 e refl (omega arith)
+      go source.Indexed4 e = indexed source.Indexed4 e refl (omega arith)
+      go source.Indexed2 e = indexed source.Indexed2 e refl (omega arith)
+      go source.Indexed1 e = indexed source.Indexed1 e refl (omega arith)
 
 -- the layout of masks of one run each
 layout-is : (depth : ℕ) (masks : List ℕ) → ((k : ℕ) → getD masks k 0 < 2 ^ 32) → ((k : ℕ) → k < 4 → isOneRun (getD masks k 0) ≡ true)
-    → newLayout (masksOf depth masks) ≡ done (layoutIn (layoutOf depth masks))
-unfolding newLayout layoutOf
+    → newLayout (masksOf depth masks) ≡ done (layoutIn (channelsOf depth masks))
+unfolding newLayout channelsOf
 layout-is depth masks small runs =
     rw (shift-len-is (getD masks 0 0) (small 0) (runs 0 (omega arith)), shift-len-is (getD masks 1 0) (small 1) (runs 1 (omega arith)), shift-len-is (getD masks 2 0) (small 2) (runs 2 (omega arith)), shift-len-is (getD masks 3 0) (small 3) (runs 3 (omega arith)))
 
 -- RowPack::masks follows row 11
 pack-masks : (i : Input) → ((k : ℕ) → getD (i .options .bitfields .masks) k 0 < 2 ^ 32) → ((k : ℕ) → k < 4 → isOneRun (getD (i .options .bitfields .masks) k 0) ≡ true)
-    → Follows ((maskSource (i .source .format), MaskSource) ∷ []) (packMasks (i .source .format) (masksOf (i .options .bitfields .bpp) (i .options .bitfields .masks))) (done (packOf (packIn masked i)))
-unfolding packMasks packIn
+    → Follows ((maskSource (i .source .format), MaskSource) ∷ []) (packMasks (i .source .format) (masksOf (i .options .bitfields .bpp) (i .options .bitfields .masks))) (done (packOf (maskPack (i .source .format) (i .options .bitfields .bpp) (i .options .bitfields .masks))))
+unfolding packMasks
 pack-masks i small runs = go (i .source .format)
   where
     depth : ℕ
@@ -174,13 +157,13 @@ pack-masks i small runs = go (i .source .format)
     masks : List ℕ
     masks = i .options .bitfields .masks
 
-    taken : (n : ℕ) (bgr : Bool) → Follows ((false, MaskSource) ∷ []) (newLayout (masksOf depth masks) >>= λ layout. done (Packing.Masks n bgr layout)) (done (Packing.Masks n bgr (layoutIn (layoutOf depth masks))))
+    taken : (n : ℕ) (bgr : Bool) → Follows ((false, MaskSource) ∷ []) (newLayout (masksOf depth masks) >>= λ layout. done (Packing.Masks n bgr layout)) (done (Packing.Masks n bgr (layoutIn (channelsOf depth masks))))
     taken n bgr = rw (layout-is depth masks small runs) (follow.row-passes false MaskSource _ refl)
 
     other : (k : Run RowPack) → Follows ((true, MaskSource) ∷ []) (fails bitfieldsSource) k
     other k = follow.row-fails true MaskSource bitfieldsSource k refl
 
-    go : (f : BmpPixelFormat) → Follows ((maskSource f, MaskSource) ∷ []) (packMasks f (masksOf depth masks)) (done (Packing.Masks (formats.bytesPerPixel f) (blueFirst f) (layoutIn (layoutOf depth masks))))
+    go : (f : BmpPixelFormat) → Follows ((maskSource f, MaskSource) ∷ []) (packMasks f (masksOf depth masks)) (done (Packing.Masks (formats.bytesPerPixel f) (blueFirst f) (layoutIn (channelsOf depth masks))))
     go source.Rgba = taken 4 false
     go source.Rgb24 = taken 3 false
     go source.Bgra = taken 4 true
@@ -196,10 +179,7 @@ pack-masks i small runs = go (i .source .format)
 
 -- what the file of a mode without a stream is written as
 abbrev pub formatIn : Mode → Input → EncodedBmpFormat
-formatIn masked i = cond (hasAlphaMask (i .options .bitfields .masks)) written.AlphaBitfields written.Bitfields
-formatIn calibrated i = plainToken (i .source .format)
-formatIn profiled i = plainToken (i .source .format)
-formatIn plain i = plainToken (i .source .format)
+formatIn m i = cond (isMasked m) (maskFormat (i .options .bitfields .masks)) (plainToken (i .source .format))
 
 abbrev pub planIn : Mode → Input → Rows → Sizes → Plan
 planIn m i rows sizes = record { head = headFor m (i .source .format) i; rows = rows; width = i .source .width; height = i .source .height; format = formatIn m i; sizes = sizes }
@@ -209,8 +189,8 @@ abbrev pub sizedIn : Mode → Input → Rows → Run Plan
 sizedIn m i rows = sizesOf (headFor m (i .source .format) i) rows maxFile >>= λ sizes. done (planIn m i rows sizes)
 
 -- so are the rows
-abbrev rowsIn : Mode → Input → Run Rows
-rowsIn m i = newRows (record { stride = i .source .stride; «data» = i .plane }) (packOf (packIn m i)) (i .source .width) (i .source .height) (i .options .«top_down»)
+abbrev rowsIn : RowPack → Input → Run Rows
+rowsIn pack i = newRows (record { stride = i .source .stride; «data» = i .plane }) pack (i .source .width) (i .source .height) (i .options .«top_down»)
 
 bind-bind : {A B C : Type 0} (m : Run A) (f : A → Run B) (g : B → Run C) → (m >>= f >>= g) ≡ (m >>= λ a. f a >>= g)
 bind-bind (done a) f g = refl
@@ -236,45 +216,52 @@ module _ (i : Input) (small : (k : ℕ) → getD (i .options .bitfields .masks) 
   abbrev masks : BmpBitfields
   masks = masksOf (i .options .bitfields .bpp) (i .options .bitfields .masks)
 
-  colour-rows : colourRows src options ≡ (rowsIn calibrated i >>= λ rows. done (rows, colourHeaderFor (i .source .format) i))
-  unfolding colourRows packIn sourceOf optionsOf
-  colour-rows = rw (colour-head i palette)
+  -- rows without masks and with them
+  abbrev plainRows : RowPack
+  plainRows = packOf (plainPack (i .source .format))
 
-  calibrated-plan : (colourRows src options >>= λ rest. assemble src (reference.V4Calibrated (rest .1) (i .options .«calibrated_rgb»)) (rest .0)) ≡ (rowsIn calibrated i >>= sizedIn calibrated i)
+  abbrev maskRows : RowPack
+  maskRows = packOf (maskPack (i .source .format) (i .options .bitfields .bpp) (i .options .bitfields .masks))
+
+  colour-rows : colourRows src options ≡ (rowsIn plainRows i >>= λ rows. done (rows, colourHeaderFor (i .source .format) i))
+  unfolding colourRows sourceOf optionsOf
+  colour-rows = rw (chosen-heads i palette .1)
+
+  calibrated-plan : (colourRows src options >>= λ rest. assemble src (reference.V4Calibrated (rest .1) (i .options .«calibrated_rgb»)) (rest .0)) ≡ (rowsIn plainRows i >>= sizedIn Calibrated i)
   unfolding assemble sourceOf
   calibrated-plan =
       ap (λ r. r >>= λ rest. assemble src (reference.V4Calibrated (rest .1) (i .options .«calibrated_rgb»)) (rest .0)) colour-rows
-      ∙ bind-bind (rowsIn calibrated i) (λ rows. done (rows, colourHeaderFor (i .source .format) i)) (λ rest. assemble src (reference.V4Calibrated (rest .1) (i .options .«calibrated_rgb»)) (rest .0))
+      ∙ bind-bind (rowsIn plainRows i) (λ rows. done (rows, colourHeaderFor (i .source .format) i)) (λ rest. assemble src (reference.V4Calibrated (rest .1) (i .options .«calibrated_rgb»)) (rest .0))
 
   profiled-plan : (colourRows src options >>= λ rest. assemble src (reference.V5Profile (rest .1) (cond (i .source .«has_linked_icc») 0x4C494E4B 0x4D424544) (i .options .«rendering_intent») (cond (i .source .«has_linked_icc») (i .linked) (i .icc))) (rest .0))
-      ≡ (rowsIn profiled i >>= sizedIn profiled i)
-  unfolding assemble sourceOf packIn tailOf
+      ≡ (rowsIn plainRows i >>= sizedIn Profiled i)
+  unfolding assemble sourceOf
   profiled-plan =
       let head : ColourHeader → Head = λ h. reference.V5Profile h (cond (i .source .«has_linked_icc») 0x4C494E4B 0x4D424544) (i .options .«rendering_intent») (cond (i .source .«has_linked_icc») (i .linked) (i .icc)) in
       ap (λ r. r >>= λ rest. assemble src (head (rest .1)) (rest .0)) colour-rows
-      ∙ bind-bind (rowsIn calibrated i) (λ rows. done (rows, colourHeaderFor (i .source .format) i)) (λ rest. assemble src (head (rest .1)) (rest .0))
+      ∙ bind-bind (rowsIn plainRows i) (λ rows. done (rows, colourHeaderFor (i .source .format) i)) (λ rest. assemble src (head (rest .1)) (rest .0))
 
-  plain-plan : reference.plain src options ≡ (rowsIn plain i >>= sizedIn plain i)
-  unfolding reference.plain assemble sourceOf optionsOf packIn
-  plain-plan = rw (plain-head i palette)
+  plain-plan : reference.plain src options ≡ (rowsIn plainRows i >>= sizedIn Plain i)
+  unfolding reference.plain assemble sourceOf optionsOf
+  plain-plan = rw (chosen-heads i palette .0)
 
-  masked-plan : Follows (bitfieldsRows (i .options .bitfields .bpp) (i .options .bitfields .masks) ++ ((maskSource (i .source .format), MaskSource) ∷ [])) (planBitfields src masks options) (rowsIn masked i >>= sizedIn masked i)
+  masked-plan : Follows (bitfieldsRows (i .options .bitfields .bpp) (i .options .bitfields .masks) ++ ((maskSource (i .source .format), MaskSource) ∷ [])) (planBitfields src masks options) (rowsIn maskRows i >>= sizedIn Masked i)
   unfolding planBitfields assemble sourceOf optionsOf
   masked-plan =
       let d = i .options .bitfields .bpp in
       let m = i .options .bitfields .masks in
-      let format : Plan → Run Plan = λ plan. done (record { head = plan .head; rows = plan .rows; width = plan .width; height = plan .height; format = formatIn masked i; sizes = plan .sizes }) in
+      let format : Plan → Run Plan = λ plan. done (record { head = plan .head; rows = plan .rows; width = plan .width; height = plan .height; format = formatIn Masked i; sizes = plan .sizes }) in
       let rest : RowPack → Run Plan = λ pack. newRows (src .plane) pack (src .width) (src .height) (options .«top_down») >>= λ rows. assemble src (reference.V3Masks masks) rows >>= format in
       follow.then (bitfieldsRows d m) ((maskSource (i .source .format), MaskSource) ∷ []) _ (packMasks (i .source .format) masks >>= rest) _
       (follow.on (bitfieldsRows d m) (validate masks) (done tt) (λ _. packMasks (i .source .format) masks >>= rest) (validated d m small))
       (λ p. let a = masks-accepted d m p in
       follow.to ((maskSource (i .source .format), MaskSource) ∷ []) _ _ _
-      (follow.on ((maskSource (i .source .format), MaskSource) ∷ []) (packMasks (i .source .format) masks) (done (packOf (packIn masked i))) rest (pack-masks i small (a .runs)))
-      (last (rowsIn masked i)))
+      (follow.on ((maskSource (i .source .format), MaskSource) ∷ []) (packMasks (i .source .format) masks) (done maskRows) rest (pack-masks i small (a .runs)))
+      (λ _. last (rowsIn maskRows i)))
     where
       last : (r : Run Rows)
-          → (r >>= λ rows. assemble src (reference.V3Masks masks) rows >>= λ plan. done (record { head = plan .head; rows = plan .rows; width = plan .width; height = plan .height; format = formatIn masked i; sizes = plan .sizes }))
-          ≡ (r >>= sizedIn masked i)
+          → (r >>= λ rows. assemble src (reference.V3Masks masks) rows >>= λ plan. done (record { head = plan .head; rows = plan .rows; width = plan .width; height = plan .height; format = formatIn Masked i; sizes = plan .sizes }))
+          ≡ (r >>= sizedIn Masked i)
       last (done rows) = bind-bind (sizesOf (reference.V3Masks masks) rows maxFile) _ _
       last (fails e) = refl
       last panics = refl
@@ -283,7 +270,7 @@ module _ (i : Input) (small : (k : ℕ) → getD (i .options .bitfields .masks) 
   planned : (a b c : Bool)
       → Follows (cond a (bitfieldsRows (i .options .bitfields .bpp) (i .options .bitfields .masks) ++ ((maskSource (i .source .format), MaskSource) ∷ [])) [])
       (planFor src options (given a masks) (given b (i .options .«calibrated_rgb»)) (given c (cond (i .source .«has_linked_icc») (i .linked) (i .icc), cond (i .source .«has_linked_icc») 0x4C494E4B 0x4D424544)))
-      (rowsIn (cond a masked (cond b calibrated (cond c profiled plain))) i >>= sizedIn (cond a masked (cond b calibrated (cond c profiled plain))) i)
+      (rowsIn (packOf (cond a (maskPack (i .source .format) (i .options .bitfields .bpp) (i .options .bitfields .masks)) (plainPack (i .source .format)))) i >>= sizedIn (cond a Masked (cond b Calibrated (cond c Profiled Plain))) i)
   unfolding planFor optionsOf
   planned true b c = masked-plan
   planned false true c = follow.nothing _ _ calibrated-plan
@@ -292,41 +279,17 @@ module _ (i : Input) (small : (k : ℕ) → getD (i .options .bitfields .masks) 
 
 -- ---- the packs' sizes
 
-pub record PackSizes (m : Mode) (i : Input) : Type 0 where
-  pub bytes : sourceBytes (packOf (packIn m i)) ≡ formats.bytesPerPixel (i .source .format)
-  pub few : sourceBytes (packOf (packIn m i)) ≤ 4
-  pub bits : packBits (packOf (packIn m i)) ≤ 32
-  pub depth : packBits (packOf (packIn m i)) ≡ depthIn m i
+pub record PackSizes (i : Input) : Type 0 where
+  pub bytes : sourceBytes (packOf (packIn i)) ≡ formats.bytesPerPixel (i .source .format)
+  pub depth : packBits (packOf (packIn i)) ≡ depthIn i
+  pub bits : packBits (packOf (packIn i)) ≤ 32
 
-record PlainSizes (f : BmpPixelFormat) : Type 0 where
-  bytes : sourceBytes (packOf (plainPack f)) ≡ formats.bytesPerPixel f
-  few : sourceBytes (packOf (plainPack f)) ≤ 4
-  bits : packBits (packOf (plainPack f)) ≤ 32
-  depth : packBits (packOf (plainPack f)) ≡ formats.bitsPerPixel f
-  sample : formats.bytesPerPixel f ≤ 4
-
-plain-sizes : (f : BmpPixelFormat) → PlainSizes f
-plain-sizes source.Rgba = record { bytes = refl; few = omega arith; bits = omega arith; depth = refl; sample = omega arith }
-plain-sizes source.Rgb24 = record { bytes = refl; few = omega arith; bits = omega arith; depth = refl; sample = omega arith }
-plain-sizes source.Bgra = record { bytes = refl; few = omega arith; bits = omega arith; depth = refl; sample = omega arith }
-plain-sizes source.Bgr24 = record { bytes = refl; few = omega arith; bits = omega arith; depth = refl; sample = omega arith }
-plain-sizes source.Rgb555 = record { bytes = refl; few = omega arith; bits = omega arith; depth = refl; sample = omega arith }
-plain-sizes source.Rgb565 = record { bytes = refl; few = omega arith; bits = omega arith; depth = refl; sample = omega arith }
-plain-sizes source.Pal8 = record { bytes = refl; few = omega arith; bits = omega arith; depth = refl; sample = omega arith }
-plain-sizes source.Indexed4 = record { bytes = refl; few = omega arith; bits = omega arith; depth = refl; sample = omega arith }
-plain-sizes source.Indexed2 = record { bytes = refl; few = omega arith; bits = omega arith; depth = refl; sample = omega arith }
-plain-sizes source.Indexed1 = record { bytes = refl; few = omega arith; bits = omega arith; depth = refl; sample = omega arith }
-
-pub pack-sizes : (m : Mode) (i : Input) → (m ≡ masked → (i .options .bitfields .bpp ≡ 16) ⊎ (i .options .bitfields .bpp ≡ 32)) → PackSizes m i
-unfolding packIn layoutOf
-pack-sizes masked i depth = record { bytes = refl; few = plain-sizes (i .source .format) .sample; bits = go (depth refl); depth = refl }
-  where
-    go : (i .options .bitfields .bpp ≡ 16) ⊎ (i .options .bitfields .bpp ≡ 32) → i .options .bitfields .bpp ≤ 32
-    go (inl e) = omega (arith, e)
-    go (inr e) = omega (arith, e)
-pack-sizes calibrated i depth = let s = plain-sizes (i .source .format) in record { bytes = s .bytes; few = s .few; bits = s .bits; depth = s .depth }
-pack-sizes profiled i depth = let s = plain-sizes (i .source .format) in record { bytes = s .bytes; few = s .few; bits = s .bits; depth = s .depth }
-pack-sizes plain i depth = let s = plain-sizes (i .source .format) in record { bytes = s .bytes; few = s .few; bits = s .bits; depth = s .depth }
+-- of a call whose masks, if given, were accepted
+pub pack-sizes : (i : Input) → (i .options .«has_bitfields» ≡ true → MasksAccepted (i .options .bitfields .bpp) (i .options .bitfields .masks))
+    → (i .options .«has_bitfields» ≡ true → maskSource (i .source .format) ≡ false) → PackSizes i
+pack-sizes i masks samples =
+    let depth : packBits (packOf (packIn i)) ≡ depthIn i = same-bits (packIn i) ∙ pack-ok i masks samples .1 in
+    record { bytes = same-bytes (packIn i) ∙ pack-bytes i; depth = depth; bits = omega (arith, depth, depth-le (i .source) (i .options) (λ e. masks e .depths)) }
 
 -- ---- all rows
 
@@ -377,13 +340,16 @@ module _ (i : Input) (ok : Typed i) (domain : Domain i) where
   abbrev planes : List (Bool × Refusal)
   planes = planeRows (i .source .width) (i .source .height) (i .source .stride) (formats.bytesPerPixel (i .source .format)) (length (i .plane))
 
+  abbrev channels : List (Bool × Refusal)
+  channels = givenMasksRows (i .source) (i .options)
+
   -- what stops among the first rows stops the plan
   first-two : (why : Refusal) → firstOf (dims ++ pals) ≡ Refused why → firstNumber (planRows maxFile i) ≡ numberOf why
   unfolding planRows checkRows
   first-two why e =
       ap checkNumber
-      (first-stop (dims ++ pals ++ modes ++ givenMasksRows i ++ planes) ((fileTooLarge maxFile i, FileTooLarge) ∷ []) why
-      (first-stop (dims ++ pals ++ modes ++ givenMasksRows i) planes why (first-stop (dims ++ pals ++ modes) (givenMasksRows i) why (first-stop (dims ++ pals) modes why e))))
+      (first-stop (dims ++ pals ++ modes ++ channels ++ planes) ((fileTooLarge maxFile i, FileTooLarge) ∷ []) why
+      (first-stop (dims ++ pals ++ modes ++ channels) planes why (first-stop (dims ++ pals ++ modes) channels why (first-stop (dims ++ pals) modes why e))))
 
   -- 1, and 2 that does not apply
   dims-follow : (k : Run Plan) → Follows dims (failIf (rows.zeroDimension (i .source .width) (i .source .height)) zeroDimension >> k) k
@@ -429,19 +395,19 @@ module _ (i : Input) (ok : Typed i) (domain : Domain i) where
       let two : Run ℕ = add 64 (fromBool (isSome (optionsOf i .bitfields))) (fromBool (isSome (optionsOf i .«calibrated_rgb»))) in
       follow.from modes _ _ k (sym (bind-bind two (λ both. add 64 both v5) (λ n. failIf (ltb 1 n) mutuallyExclusive >> k)) ∙ ap (λ r. r >>= λ n. failIf (ltb 1 n) mutuallyExclusive >> k) (requested-is i)) (follow.row-fails _ SeveralModes mutuallyExclusive k refl)
 
-  masks-follow : (formats.isIndexed (i .source .format) ≡ true → i .source .«has_palette» ≡ true) → Follows (givenMasksRows i) chosen (rowsIn (modeOf i) i >>= sizedIn (modeOf i) i)
-  unfolding givenMasksRows modeOf sourceOf optionsOf
+  masks-follow : (formats.isIndexed (i .source .format) ≡ true → i .source .«has_palette» ≡ true) → Follows channels chosen (rowsIn (packOf (packIn i)) i >>= sizedIn (modeIn i) i)
+  unfolding givenMasksRows modeOf layout.packOf sourceOf optionsOf
   masks-follow palette =
       rw (profile-is (i .source .«has_linked_icc») (i .source .«has_icc») (i .options .«embed_icc») (i .linked) (i .icc))
       (planned i (ok .masks) palette (i .options .«has_bitfields») (i .options .«has_calibrated_rgb») (profileMode (i .source .«has_linked_icc») (i .source .«has_icc») (i .options .«embed_icc»)))
 
   -- 12 and 13
-  planes-follow : sourceBytes (packOf (packIn (modeOf i) i)) ≡ formats.bytesPerPixel (i .source .format) → sourceBytes (packOf (packIn (modeOf i) i)) ≤ 4 → packBits (packOf (packIn (modeOf i) i)) ≤ 32
-      → Follows planes (rowsIn (modeOf i) i >>= sizedIn (modeOf i) i) (sizedIn (modeOf i) i (rowsFor (packOf (packIn (modeOf i) i)) i))
-  planes-follow bytes few bits =
-      let pack = packOf (packIn (modeOf i) i) in
-      let p : planeRows (i .source .width) (i .source .height) (i .source .stride) (sourceBytes pack) (length (i .plane)) ≡ planes = ap (λ n. planeRows (i .source .width) (i .source .height) (i .source .stride) n (length (i .plane))) bytes in
-      follow.on planes (rowsIn (modeOf i) i) (done (rowsFor pack i)) (sizedIn (modeOf i) i) (subst (λ r. Follows r (rowsIn (modeOf i) i) (done (rowsFor pack i))) p (new-rows i pack (ok .width) (domain .product) few bits))
+  planes-follow : PackSizes i → Follows planes (rowsIn (packOf (packIn i)) i >>= sizedIn (modeIn i) i) (sizedIn (modeIn i) i (rowsFor (packOf (packIn i)) i))
+  planes-follow sizes =
+      let pack = packOf (packIn i) in
+      let p : planeRows (i .source .width) (i .source .height) (i .source .stride) (sourceBytes pack) (length (i .plane)) ≡ planes = ap (λ n. planeRows (i .source .width) (i .source .height) (i .source .stride) n (length (i .plane))) (sizes .bytes) in
+      let few : sourceBytes pack ≤ 4 = omega (arith, sizes .bytes, tables (i .source .format) .few) in
+      follow.on planes (rowsIn pack i) (done (rowsFor pack i)) (sizedIn (modeIn i) i) (subst (λ r. Follows r (rowsIn pack i) (done (rowsFor pack i))) p (new-rows i pack (ok .width) (domain .product) few (sizes .bits)))
 
   -- an indexed source that row 3 lets through has its palette
   palette-of : firstOf pals ≡ Passed → formats.isIndexed (i .source .format) ≡ true → i .source .«has_palette» ≡ true
@@ -455,15 +421,27 @@ module _ (i : Input) (ok : Typed i) (domain : Domain i) where
           let z : true ≡ false = rw (e, q) at missing in
           absurd (false≢true (sym z))
 
+  -- a table has whole entries
+  pub quads : firstOf (callRows i) ≡ Passed → (length (i .palette) % 4 ≡ 0) ⊎ (formats.isIndexed (i .source .format) ≡ false)
+  unfolding checkRows paletteRows
+  quads p =
+      let f = formats.isIndexed (i .source .format) in
+      let four = first-parts dims pals (first-parts (dims ++ pals) modes (first-parts (dims ++ pals ++ modes) channels (first-parts (dims ++ pals ++ modes ++ channels) planes p .0) .0) .0) .1 in
+      go f refl (row-parts (paletteNotQuads f (length (i .palette))) PaletteNotQuads _ (row-parts (paletteMissing f (i .source .«has_palette»)) PaletteMissing _ four .1) .0)
+    where
+      go : (b : Bool) → formats.isIndexed (i .source .format) ≡ b → (b && not (eqb (length (i .palette) % 4) 0)) ≡ false → (length (i .palette) % 4 ≡ 0) ⊎ (formats.isIndexed (i .source .format) ≡ false)
+      go true e h = inl (eqb-true (length (i .palette) % 4) 0 (not-false (eqb (length (i .palette) % 4) 0) h))
+      go false e h = inr e
+
   -- Plan::new up to its sizes
-  pub new-plan : Follows (checkRows i) (newPlan (sourceOf i) (optionsOf i)) (sizedIn (modeOf i) i (rowsFor (packOf (packIn (modeOf i) i)) i))
+  pub new-plan : Follows (callRows i) (newPlan (sourceOf i) (optionsOf i)) (sizedIn (modeIn i) i (rowsFor (packOf (packIn i)) i))
   unfolding checkRows newPlan sourceOf optionsOf
   new-plan =
       let three : Run Plan = exclusive chosen in
       let two : Run Plan = failIf (isIndexed (i .source .format) && not (isSome (sourceOf i .palette))) requiresPalette >> three in
-      follow.then (dims ++ pals ++ modes ++ givenMasksRows i) planes _ _ _
-      (follow.then (dims ++ pals ++ modes) (givenMasksRows i) _ chosen _
+      follow.then (dims ++ pals ++ modes ++ channels) planes _ _ _
+      (follow.then (dims ++ pals ++ modes) channels _ chosen _
       (follow.then (dims ++ pals) modes _ three _ (follow.then dims pals _ two _ (dims-follow two) (λ p. pals-follow p three)) (λ _. modes-follow chosen))
       (λ p. masks-follow (palette-of (first-parts dims pals (first-parts (dims ++ pals) modes p .0) .1))))
-      (λ p. let sizes = pack-sizes (modeOf i) i (λ e. given-masks i (first-parts (dims ++ pals ++ modes) (givenMasksRows i) p .1) (masks-given i e) .0 .depths) in
-      planes-follow (sizes .bytes) (sizes .few) (sizes .bits))
+      (λ p. let given = given-masks (i .source) (i .options) (first-parts (dims ++ pals ++ modes) channels p .1) in
+      planes-follow (pack-sizes i (λ e. given e .0) (λ e. given e .1)))

@@ -10,7 +10,7 @@ use Rattle.leaves.specs.Refusals.{planeTooShort, strideTooShort, planeRows}
 use Rattle.leaves.specs.Sizes as document
 use Rattle.format.specs.Input.{Input}
 use Rattle.reference.specs.Rust.{done, _>>=_, _>>_, planeTruncated, strideBelowRow}
-use Rattle.reference.specs.Packing.{RowPack, packBits, sourceBytes, rowStride, Rows, newRows}
+use Rattle.reference.specs.Packing.{RowPack, packBits, sourceBytes, Rows, newRows}
 use Rattle.reference.proofs.RunLaws.{mul-is}
 use Rattle.reference.proofs.PackingLaws.{stride-is}
 use Rattle.reference.proofs.Follows as follow

@@ -9,7 +9,7 @@ use native.Mathlib.Omega.{arith}
 use borrow.Author.Tests.{eq-eqb}
 use lib.Bits.{bitOr, or-zero-l}
 use lib.Dec.{eqb}
-use lib.ListN.{length, getD, replicate}
+use lib.ListN.{length, getD, replicate, length-append, length-replicate}
 use Rattle.leaves.specs.declared.bitfields.MaskShiftLen.{MaskShiftLen}
 use Rattle.rows.specs.declared.masks.MaskLayout.{MaskLayout}
 use Rattle.rows.specs.declared.pack.RowPack.{RowPack}
@@ -17,13 +17,14 @@ use Rattle.rows.specs.declared.pack.RowPack.the-variants.{Bgra32, Bgr24, Words1
 use Rattle.leaves.specs.Bytes.{le16, le32}
 use Rattle.leaves.specs.Lists.{tab, cat}
 use Rattle.leaves.specs.Sizes.{rowStride}
-use Rattle.rows.specs.StoredRows.{padded, cell24, cell32, field, maskWord, maskCell, storedRow, packBits, packBytes, LayoutOk, PackOk, redIn, greenIn, blueIn, alphaIn}
+use Rattle.rows.specs.StoredRows.{padded, cell24, cell32, storedRow, packBits, packBytes, LayoutOk, PackOk, redIn, greenIn, blueIn, alphaIn}
 use Rattle.leaves.proofs.ListLaws.{length-cat}
 use Rattle.rows.proofs.AllRows.{length-storedRow}
 use Rattle.rows.proofs.Cells.{copied32, length-cell24, length-cell32, stored32}
-use Rattle.rows.proofs.MaskCells.{length-maskCell, cells-fit, three-bytes}
+use Rattle.rows.proofs.MaskCells.{cells-fit, three-bytes}
 use Rattle.reference.specs.Rust.{Run, done, _>>=_, usize, add, mul, toLeBytes, at, store, range, within, copyFromSlice, for}
 use Rattle.reference.specs.Packing as reference
+use Rattle.reference.proofs.Original.{originalField, originalWord, originalCell, originalRow}
 use Rattle.reference.proofs.RunLaws.{add-is, mul-is, div-is, at-is, copy-is}
 use Rattle.reference.proofs.QuantiseLaws.{field-is}
 use Rattle.reference.proofs.IndexLaws.{indices-is}
@@ -43,6 +44,21 @@ packOf (Bgr24 bgr) = reference.Bgr24 3 bgr
 packOf Words16 = reference.Words16
 packOf (Indexed bpp) = reference.Indexed bpp
 packOf (Masks n bgr layout) = reference.Masks n bgr (layoutOf layout)
+
+-- its sizes are the same
+pub same-bits : (p : RowPack) → reference.packBits (packOf p) ≡ packBits p
+same-bits (Bgra32 bgr) = refl
+same-bits (Bgr24 bgr) = refl
+same-bits Words16 = refl
+same-bits (Indexed bpp) = refl
+same-bits (Masks n bgr layout) = refl
+
+pub same-bytes : (p : RowPack) → reference.sourceBytes (packOf p) ≡ packBytes p
+same-bytes (Bgra32 bgr) = refl
+same-bytes (Bgr24 bgr) = refl
+same-bytes Words16 = refl
+same-bytes (Indexed bpp) = refl
+same-bytes (Masks n bgr layout) = refl
 
 -- row_stride is the document's stride
 pub stride-is : (w bpp : ℕ) → w < 2 ^ 32 → bpp ≤ 32 → reference.rowStride w bpp ≡ done (rowStride w bpp)
@@ -97,10 +113,16 @@ row24 bgr w src size h =
 
 -- as many bytes of the word as the depth says
 mask-bytes : (layout : MaskLayout) (n : ℕ) (bgr : Bool) (src : List ℕ) (x : ℕ) → (layout .bpp ≡ 16) ⊎ (layout .bpp ≡ 32)
-    → range (toLeBytes 4 (maskWord layout n bgr src x)) 0 (layout .bpp / 8) ≡ done (maskCell layout n bgr src x)
-unfolding range toLeBytes maskCell le16 le32
+    → range (toLeBytes 4 (originalWord layout n bgr src x)) 0 (layout .bpp / 8) ≡ done (originalCell layout n bgr src x)
+unfolding range toLeBytes originalCell le16 le32
 mask-bytes layout n bgr src x (inl e) = rw e
 mask-bytes layout n bgr src x (inr e) = rw e
+
+-- and as many has the cell
+length-cell : (layout : MaskLayout) (n : ℕ) (bgr : Bool) (src : List ℕ) (x : ℕ) → (layout .bpp ≡ 16) ⊎ (layout .bpp ≡ 32) → length (originalCell layout n bgr src x) ≡ layout .bpp / 8
+unfolding originalCell le16 le32
+length-cell layout n bgr src x (inl e) = rw e
+length-cell layout n bgr src x (inr e) = rw e
 
 either-le : (n a b c : ℕ) → (n ≡ a) ⊎ (n ≡ b) → a ≤ c → b ≤ c → n ≤ c
 either-le n a b c (inl e) h k = omega arith
@@ -139,8 +161,8 @@ module _ (n : ℕ) (bgr : Bool) (layout : MaskLayout) (kind : (n ≡ 3) ⊎ (n �
   -- a turn copies the pixel's cell to its place
   mask-turn : (x : ℕ) (dst : List ℕ) → x < w
       → reference.maskPixel (layoutOf layout) src n (cond bgr 2 0) (cond bgr 0 2) x dst
-      ≡ within dst (x * (layout .bpp / 8)) (x * (layout .bpp / 8) + layout .bpp / 8) (λ part. copyFromSlice part (maskCell layout n bgr src x))
-  unfolding reference.maskPixel maskWord
+      ≡ within dst (x * (layout .bpp / 8)) (x * (layout .bpp / 8) + layout .bpp / 8) (λ part. copyFromSlice part (originalCell layout n bgr src x))
+  unfolding reference.maskPixel originalWord
   mask-turn x dst l =
       let m : ℕ = layout .bpp / 8 in
       let r : ℕ = redIn n bgr src x in
@@ -155,21 +177,21 @@ module _ (n : ℕ) (bgr : Bool) (layout : MaskLayout) (kind : (n ≡ 3) ⊎ (n �
         colour-of x bgr 0 2 l (omega arith) (omega arith),
         alpha-of x l,
         field-is (layout .r) r 0 (small _) (ok .red),
-        or-zero-l (field (layout .r) r),
-        field-is (layout .g) g (field (layout .r) r) (small _) (ok .green),
-        field-is (layout .b) b (bitOr (field (layout .r) r) (field (layout .g) g)) (small _) (ok .blue),
-        field-is (layout .a) a (bitOr (bitOr (field (layout .r) r) (field (layout .g) g)) (field (layout .b) b)) (alpha-small x) (ok .alpha),
+        or-zero-l (originalField (layout .r) r),
+        field-is (layout .g) g (originalField (layout .r) r) (small _) (ok .green),
+        field-is (layout .b) b (bitOr (originalField (layout .r) r) (originalField (layout .g) g)) (small _) (ok .blue),
+        field-is (layout .a) a (bitOr (bitOr (originalField (layout .r) r) (originalField (layout .g) g)) (originalField (layout .b) b)) (alpha-small x) (ok .alpha),
         mul-is 64 x m (omega arith),
         add-is 64 (x * m) m room,
       )
       (ap (λ (cell : Run (List ℕ)). cell >>= λ bytes. within dst (x * m) (x * m + m) (λ part. copyFromSlice part bytes)) (mask-bytes layout n bgr src x (ok .depth)))
 
-  row-masks : reference.packLayout (layoutOf layout) src n bgr (zeros (rowStride w (layout .bpp))) ≡ done (storedRow (Masks n bgr layout) w src)
-  unfolding reference.packLayout storedRow padded
+  row-masks : reference.packLayout (layoutOf layout) src n bgr (zeros (rowStride w (layout .bpp))) ≡ done (originalRow (Masks n bgr layout) w src)
+  unfolding reference.packLayout originalRow padded
   row-masks =
       let m : ℕ = layout .bpp / 8 in
-      let cell : ℕ → List ℕ = maskCell layout n bgr src in
-      let len : (x : ℕ) → length (cell x) ≡ m = length-maskCell layout n bgr src (ok .depth) in
+      let cell : ℕ → List ℕ = originalCell layout n bgr src in
+      let len : (x : ℕ) → length (cell x) ≡ m = λ x. length-cell layout n bgr src x (ok .depth) in
       let some : 0 < n = omega (arith, three-bytes n kind) in
       let cells : length src / n ≡ w = rw size (mul-div-cancel w some) in
       let all : length (cat cell w) ≡ w * m = length-cat cell m w (λ x _. len x) in
@@ -183,28 +205,38 @@ module _ (n : ℕ) (bgr : Bool) (layout : MaskLayout) (kind : (n ≡ 3) ⊎ (n �
 
 -- one row
 pub pack-row-is : (p : RowPack) → PackOk p → (w : ℕ) (src : List ℕ) → ((k : ℕ) → getD src k 0 < 256) → length src ≡ w * packBytes p → w < 2 ^ 32
-    → reference.packRow (packOf p) src (replicate (rowStride w (packBits p)) 0) ≡ done (storedRow p w src)
-unfolding reference.packRow storedRow
+    → reference.packRow (packOf p) src (replicate (rowStride w (packBits p)) 0) ≡ done (originalRow p w src)
+unfolding reference.packRow originalRow storedRow
 pack-row-is (Bgra32 bgr) ok w src small size narrow = row32 bgr w src size
 pack-row-is (Bgr24 bgr) ok w src small size narrow = row24 bgr w src size narrow
 pack-row-is Words16 ok w src small size narrow = copied-in src (rowStride w 16) (omega (arith, row-fits w 16))
 pack-row-is (Indexed bpp) ok w src small size narrow = indices-is src (rowStride w bpp) bpp ok small (rw (size ∙ mul-one w) (row-fits w bpp))
 pack-row-is (Masks n bgr layout) ok w src small size narrow = row-masks n bgr layout (ok .0) (ok .1) w src small size narrow
 
+-- it has the stored row's length
+length-row : (p : RowPack) → PackOk p → (w : ℕ) (src : List ℕ) → length src ≡ w * packBytes p → length (originalRow p w src) ≡ rowStride w (packBits p)
+unfolding originalRow padded
+length-row (Bgra32 bgr) ok w src size = length-storedRow (Bgra32 bgr) ok w src (omega arith)
+length-row (Bgr24 bgr) ok w src size = length-storedRow (Bgr24 bgr) ok w src (omega arith)
+length-row Words16 ok w src size = length-storedRow Words16 ok w src (omega arith)
+length-row (Indexed bpp) ok w src size = length-storedRow (Indexed bpp) ok w src (omega arith)
+length-row (Masks n bgr layout) ok w src size =
+    simp (length-append, length-replicate, length-cat (originalCell layout n bgr src) (layout .bpp / 8) w (λ x _. length-cell layout n bgr src x (ok .1 .depth))) (omega (arith, cells-fit w (layout .bpp) (ok .1 .depth)))
+
 -- each row into its part
 pub pack-all-is : (r : reference.Rows) (p : RowPack) → PackOk p → r .pack ≡ packOf p → r .stride ≡ rowStride (r .width) (packBits p) → r .width < 2 ^ 32
     → r .stride * r .height < 2 ^ 64 → (src : ℕ → List ℕ) → ((y : ℕ) → y < r .height → reference.sourceRow r y ≡ done (src y))
     → ((y : ℕ) → y < r .height → length (src y) ≡ r .width * packBytes p) → ((y k : ℕ) → getD (src y) k 0 < 256)
-    → reference.packAll r (replicate (r .stride * r .height) 0) ≡ done (cat (λ y. storedRow p (r .width) (src y)) (r .height))
+    → reference.packAll r (replicate (r .stride * r .height) 0) ≡ done (cat (λ y. originalRow p (r .width) (src y)) (r .height))
 unfolding reference.packAll reference.packOne
 pack-all-is r p ok same stride narrow whole src source size small =
     let s : ℕ = r .stride in
     let h : ℕ = r .height in
-    let row : ℕ → List ℕ = λ y. storedRow p (r .width) (src y) in
+    let row : ℕ → List ℕ = λ y. originalRow p (r .width) (src y) in
     let total : s * h ≡ h * s + 0 = omega (arith, mul-comm s h) in
     ap (λ (n : ℕ). reference.packAll r (zeros n)) total
     ∙ cells-in s h 0 row (reference.packOne r) (λ y dst. mul usize y s >>= λ start. add usize start s >>= λ end. within dst start end (reference.packOne r y))
-    (λ y l. length-storedRow p ok (r .width) (src y) (omega (arith, size y l)) ∙ sym stride)
+    (λ y l. length-row p ok (r .width) (src y) (size y l) ∙ sym stride)
     (λ y dst l.
     let b : y * s + s ≤ h * s = omega (arith, mul-le-mul-right s l, suc-mul y s) in
     rw (mul-is 64 y s (omega arith), add-is 64 (y * s) s (omega arith)))

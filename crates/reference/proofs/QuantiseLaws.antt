@@ -10,15 +10,13 @@ use lib.Count.{leadingZeros, trailingZeros, leading-le}
 use lib.Dec.{ltb, leb, eqb}
 use lib.Pow.{pow-lt, pow-pos, shl-exact}
 use Rattle.leaves.specs.declared.bitfields.MaskShiftLen.{MaskShiftLen}
-use Rattle.leaves.specs.Fit.{fit}
 use Rattle.leaves.specs.Masks.{isOneRun, lowest, count}
-use Rattle.rows.specs.StoredRows.{field}
 use Rattle.leaves.proofs.Fitting.{joined-lt, top-lt, whole-lt}
 use Rattle.leaves.proofs.Runs.{count-zero, ends-within, len-run}
-use Rattle.rows.proofs.MaskCells.{field-none, field-some}
 use Rattle.reference.specs.Rust.{done, _>>=_, u32, sub, shl, shr}
 use Rattle.reference.specs.Bitfields.{maskShiftLen, quantise}
 use Rattle.reference.specs.Packing.{orField}
+use Rattle.reference.proofs.Original.{originalFit, originalField}
 use Rattle.reference.proofs.RunLaws.{sub-is, shl-is, shr-is}
 
 -- the mask of n ones
@@ -44,12 +42,12 @@ wide-is s n low h l u t =
       mod-eq-of-lt (joined-lt n s low (omega arith) h t),
     )
 
--- quantise is the document's fit
-pub quantise-is : (s n : ℕ) → s < 256 → n ≤ 32 → quantise s n ≡ done (fit n s)
-unfolding quantise fit
+-- quantise is document 01's fit
+pub quantise-is : (s n : ℕ) → s < 256 → n ≤ 32 → quantise s n ≡ done (originalFit n s)
+unfolding quantise originalFit
 quantise-is s n h u = go (eqb n 8) (ltb n 8) refl refl
   where
-    go : (a b : Bool) → eqb n 8 ≡ a → ltb n 8 ≡ b → quantise s n ≡ done (fit n s)
+    go : (a b : Bool) → eqb n 8 ≡ a → ltb n 8 ≡ b → quantise s n ≡ done (originalFit n s)
     go true b e f = let p : n ≡ 8 = eqb-true n 8 e in rw p (ap done (sym (div-one s)))
     go false true e f =
         let l : n < 8 = ltb-true n 8 f in
@@ -83,19 +81,12 @@ shift-len-is mask h e = go (eqb mask 0) refl
 
 -- a channel of no bits leaves the word as it is, and its field is 0
 pub field-is : (channel : MaskShiftLen) (sample word : ℕ) → sample < 256 → channel .shift + channel .len ≤ 32
-    → orField sample (channel .shift, channel .len) word ≡ done (bitOr word (field channel sample))
-unfolding orField
+    → orField sample (channel .shift, channel .len) word ≡ done (bitOr word (originalField channel sample))
+unfolding orField originalField
 field-is channel sample word h u = go (ltb 0 (channel .len)) refl
   where
-    go : (b : Bool) → ltb 0 (channel .len) ≡ b → orField sample (channel .shift, channel .len) word ≡ done (bitOr word (field channel sample))
+    go : (b : Bool) → ltb 0 (channel .len) ≡ b → orField sample (channel .shift, channel .len) word ≡ done (bitOr word (originalField channel sample))
     go true e =
         let l : 0 < channel .len = ltb-true 0 (channel .len) e in
-        rw (
-          e,
-          quantise-is sample (channel .len) h (omega arith),
-          shl-is 32 (fit (channel .len) sample) (channel .shift) (omega arith),
-          field-some channel sample (fit (channel .len) sample) refl h u,
-        )
-    go false e =
-        let l : channel .len ≡ 0 = omega (arith, ltb-false 0 (channel .len) e) in
-        rw (e, ← field-none channel sample l h) (ap done (sym (or-zero-r word)))
+        rw (e, quantise-is sample (channel .len) h (omega arith), shl-is 32 (originalFit (channel .len) sample) (channel .shift) (omega arith))
+    go false e = rw e (ap done (sym (or-zero-r word)))

@@ -4,11 +4,20 @@ use mathlib.Core.Bool.{Bool, true, false, cond}
 use Prim.Native.Nat.{ℕ, suc, _+_, _-_, _*_, _^_, _≤_, _<_}
 use native.Mathlib.Nat.{suc-mul, mul-le-mul-right}
 use native.Mathlib.Omega.{arith}
-use lib.ListN.{length}
+use lib.ListN.{length, getD}
 use Rattle.rows.specs.StoredRows as document
+use Rattle.format.specs.File.{packIn}
+use Rattle.format.specs.Input.{Input}
+use Rattle.format.proofs.SourceRows.{source-small}
 use Rattle.reference.specs.Rust.{done, _>>=_, add, sub, mul, range}
 use Rattle.reference.specs.Packing.{sourceBytes, Rows, sourceRow}
+use Rattle.reference.specs.Compared.{Typed}
+use Rattle.reference.proofs.Original.{rowIn}
 use Rattle.reference.proofs.RunLaws.{add-is, sub-is, mul-is, range-is}
+
+-- the bytes of a call's source row
+pub row-small : (i : Input) → Typed i → (y k : ℕ) → getD (rowIn i y) k 0 < 256
+row-small i ok y = source-small (i .plane) (i .source .stride) (i .source .width * document.packBytes (packIn i)) (document.rowOf (i .options .«top_down») (i .source .height) y) (ok .plane-bytes)
 
 -- rows inside their stride and inside the plane, whose bytes can be addressed
 pub record RowsOk (r : Rows) : Type 0 where

@@ -14,10 +14,6 @@ use Rattle.format.specs.Input.{Input}
 use Rattle.format.specs.Refusals.{planRows, streamOverBudget}
 use Rattle.leaves.specs.declared.error.Refusal.{Refusal}
 use Rattle.leaves.specs.declared.error.Refusal.the-variants.{StreamOverBudget}
-use Rattle.leaves.specs.Put.{put}
-use Rattle.planner.specs.declared.encoder.Encoded.{Encoded}
-use Rattle.planner.specs.declared.plan.SizeBound.{SizeBound}
-use Rattle.planner.specs.Answers.{encodedNumber, encodedBytes, encodedFormat, boundNumber, boundBytes}
 use Rattle.reference.specs.Rust.{Error, zeroDimension, requiresPalette, mutuallyExclusive, bitfieldsBpp, maskExceeds, maskNotContiguous, maskOverlaps, noColourMask, bitfieldsSource, planeTruncated, strideBelowRow, pixelArrayOverflows, fileOverflows, overLimit, notAddressable, rleOverLimit, Run, done, fails, panics, _>>=_, Option, some, none}
 use Rattle.reference.specs.Types.{BmpBitfields, EncodeSource, EncodeOptions}
 use Rattle.reference.specs.Plan.{newPlan, Appended, wrote, refused, writeInto, encodeSource}
@@ -94,6 +90,22 @@ abbrev pub answer : {A : Type 0} → Check → A → Outcome A
 answer check.Passed a = gives a
 answer (check.Refused why) a = refuses (numberOf why)
 
+-- ---- the agreed differences
+
+-- Byte equality is with the original's file after this: what the original's own file, of this format, becomes here. No difference is agreed: it is the
+-- identity.
+unfoldable pub agreed : Input → List ℕ → EncodedBmpFormat → List ℕ
+agreed i file format = file
+
+-- of what `encode_source` returns
+abbrev pub agreedFile : Input → List ℕ × EncodedBmpFormat → Run (List ℕ × EncodedBmpFormat)
+agreedFile i (file, format) = done (agreed i file format, format)
+
+-- of what `write_into` leaves behind `out`
+abbrev pub agreedBehind : Input → List ℕ → Appended → Run Appended
+agreedBehind i out (wrote format all) = done (wrote format (take (length out) all ++ agreed i (drop (length out) all) format))
+agreedBehind i out (refused e all) = done (refused e all)
+
 -- ---- the comparison
 
 -- "Domain of the comparison: 2, 4 and 15 don't apply and stride × height is below 2^64"; 15 is a lent buffer's, which the original has not
@@ -123,26 +135,11 @@ encodeBehind src options out = newPlan src options >>= λ plan. writeInto plan o
 unfoldable pub fileRows : Input → List (Bool × Refusal)
 fileRows i = planRows document.maxFile i ++ ((streamOverBudget document.maxFile i, StreamOverBudget) ∷ [])
 
--- Bound, file, format and refusal are the document's, and nothing panics. Where `out` has room for the bound in a Vec, the file stands behind what `out` held; the one Err that `write_into` returns leaves `out` as it was.
+-- Bound, file (with the agreed differences), format and refusal are the document's, and nothing panics. Where `out` has room for the bound in a Vec, the file stands behind what `out` held; the one Err that `write_into` returns leaves `out` as it was.
 pub record SameAnswers (i : Input) : Type 0 where
   pub bound : outcome (sizeBound (sourceOf i) (optionsOf i)) ≡ answer (firstOf (planRows document.maxFile i)) (document.boundOf document.maxFile i)
-  pub file : outcome (encodeSource (sourceOf i) (optionsOf i)) ≡ answer (firstOf (fileRows i)) (document.fileOf document.maxFile i, document.formatOf document.maxFile (document.modeOf i) i)
+  pub file : outcome (encodeSource (sourceOf i) (optionsOf i) >>= agreedFile i) ≡ answer (firstOf (fileRows i)) (document.fileOf document.maxFile i, document.formatOf document.maxFile i)
   pub behind : (out : List ℕ) → length out + document.boundOf document.maxFile i < 2 ^ 63
-      → outcome (encodeBehind (sourceOf i) (optionsOf i) out)
+      → outcome (encodeBehind (sourceOf i) (optionsOf i) out >>= agreedBehind i out)
       ≡ answer (firstOf (planRows document.maxFile i))
-      (cond (streamOverBudget document.maxFile i) (refused rleOverLimit out) (wrote (document.formatOf document.maxFile (document.modeOf i) i) (out ++ document.fileOf document.maxFile i)))
-
--- ---- the port's calls
-
--- the writing call answers as the original, and the later buffer holds its file
-abbrev pub WritesAs : Outcome (List ℕ × EncodedBmpFormat) → ℕ → List ℕ → List ℕ → Encoded → Type 0
-WritesAs (gives (file, format)) offset was later answer =
-    (encodedNumber answer ≡ 0) × (encodedFormat answer ≡ format ∷ []) × (encodedBytes answer ≡ length file) × (later ≡ put was offset file)
-WritesAs (refuses n) offset was later answer = (encodedNumber answer ≡ n) × (later ≡ was)
-WritesAs panicked offset was later answer = ⊥
-
--- the size query answers as the original
-abbrev pub BoundsAs : Outcome ℕ → SizeBound → Type 0
-BoundsAs (gives bytes) answer = (boundNumber answer ≡ 0) × (boundBytes answer ≡ bytes)
-BoundsAs (refuses n) answer = boundNumber answer ≡ n
-BoundsAs panicked answer = ⊥
+      (cond (streamOverBudget document.maxFile i) (refused rleOverLimit out) (wrote (document.formatOf document.maxFile i) (out ++ document.fileOf document.maxFile i)))

@@ -6,3 +6,4 @@ pub mod Rle
 pub mod Headers
 pub mod Plan
 pub mod Compared
+pub mod PortCalls

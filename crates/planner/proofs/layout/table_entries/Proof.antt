@@ -5,7 +5,7 @@ use native.Mathlib.Omega.{arith}
 use Rattle.leaves.specs.Formats.{bitsPerPixel}
 use Rattle.leaves.specs.Sizes.{writtenPaletteEntries}
 use Rattle.format.specs.Layout.{tableEntries}
-use Rattle.planner.proofs.LayoutLaws.{entries-small}
+use Rattle.format.proofs.HeadTable.{entries-small}
 use borrow.Author.Needs.{needs}
 use Rattle.planner.proofs.layout.table_entries.Statement.{statement}
 use Rattle.planner.proofs.layout.table_entries.Tie as tie
