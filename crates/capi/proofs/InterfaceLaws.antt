@@ -23,10 +23,10 @@ use Rattle.planner.specs.Calls.{called}
 use Rattle.capi.specs.declared.BmpAnswer.{BmpAnswer}
 use Rattle.capi.specs.declared.BmpOptions.{BmpOptions}
 use Rattle.capi.specs.declared.BmpSource.{BmpSource}
-use Rattle.capi.specs.declared.Layout.{Layout}
-use Rattle.capi.specs.declared.Layout.the-variants.{Known, Unknown}
+use Rattle.capi.specs.declared.SourceFormat.{SourceFormat}
+use Rattle.capi.specs.declared.SourceFormat.the-variants.{Known, Unknown}
 use lib.Seq.{getD-append-add}
-use Rattle.capi.specs.Interface.{layouts, layoutAt, sourceOf, optionsOf, encodedAnswer, boundAnswer, unknownFormat, Encodes, Bounds, EncodePromise, BoundPromise}
+use Rattle.capi.specs.Interface.{formats, formatAt, sourceOf, optionsOf, encodedAnswer, boundAnswer, unknownFormat, Encodes, Bounds, EncodePromise, BoundPromise}
 
 -- the promise of the writing call in numbers alone
 abbrev formatsNumber : List EncodedBmpFormat → ℕ
@@ -60,42 +60,42 @@ pub bounds-numbers : (i : Input) (a : BmpAnswer) → Bounds i a → BoundNumbers
 bounds-numbers i a b = subst (BoundNumbers i) (sym (b .answer)) (bound-numbers i (b .writer) (b .promise))
 
 -- a format that is listed
-module _ (l : Layout) (f : BmpPixelFormat) (source : BmpSource) (options : BmpOptions) (plane palette icc linked : List ℕ) (src : EncodeSource) (chosen : EncodeOptions)
+module _ (l : SourceFormat) (f : BmpPixelFormat) (source : BmpSource) (options : BmpOptions) (plane palette icc linked : List ℕ) (src : EncodeSource) (chosen : EncodeOptions)
     (known : Known f ≡ l) (es : src ≡ sourceOf source f) (eo : chosen ≡ optionsOf options) where
   pub encode-known : (offset : ℕ) (was later : List ℕ) (r : Encoded) (a : BmpAnswer) → Written (called src chosen plane palette icc linked) offset was later r
       → a ≡ encodedAnswer r → EncodePromise l source options plane palette icc linked offset was later a
   encode-known offset was later r a w e =
-      subst (λ (k : Layout). EncodePromise k source options plane palette icc linked offset was later a) known
+      subst (λ (k : SourceFormat). EncodePromise k source options plane palette icc linked offset was later a) known
       (record { writer = r; promise = subst (λ (i : Input). Written i offset was later r) (λ z. called (es z) (eo z) plane palette icc linked) w; answer = e })
 
   pub bound-known : (r : SizeBound) (a : BmpAnswer) → Sized (called src chosen plane palette icc linked) r → a ≡ boundAnswer r
       → BoundPromise l source options plane palette icc linked a
   bound-known r a s e =
-      subst (λ (k : Layout). BoundPromise k source options plane palette icc linked a) known
+      subst (λ (k : SourceFormat). BoundPromise k source options plane palette icc linked a) known
       (record { writer = r; promise = subst (λ (i : Input). Sized i r) (λ z. called (es z) (eo z) plane palette icc linked) s; answer = e })
 
 -- and one that is not
-pub encode-unknown : (l : Layout) (source : BmpSource) (options : BmpOptions) (plane palette icc linked : List ℕ) (offset : ℕ) (was : List ℕ) → Unknown ≡ l
+pub encode-unknown : (l : SourceFormat) (source : BmpSource) (options : BmpOptions) (plane palette icc linked : List ℕ) (offset : ℕ) (was : List ℕ) → Unknown ≡ l
     → EncodePromise l source options plane palette icc linked offset was was unknownFormat
 encode-unknown l source options plane palette icc linked offset was e =
-    subst (λ (k : Layout). EncodePromise k source options plane palette icc linked offset was was unknownFormat) e (refl, refl)
+    subst (λ (k : SourceFormat). EncodePromise k source options plane palette icc linked offset was was unknownFormat) e (refl, refl)
 
-pub bound-unknown : (l : Layout) (source : BmpSource) (options : BmpOptions) (plane palette icc linked : List ℕ) → Unknown ≡ l
+pub bound-unknown : (l : SourceFormat) (source : BmpSource) (options : BmpOptions) (plane palette icc linked : List ℕ) → Unknown ≡ l
     → BoundPromise l source options plane palette icc linked unknownFormat
-bound-unknown l source options plane palette icc linked e = subst (λ (k : Layout). BoundPromise k source options plane palette icc linked unknownFormat) e refl
+bound-unknown l source options plane palette icc linked e = subst (λ (k : SourceFormat). BoundPromise k source options plane palette icc linked unknownFormat) e refl
 
 -- numbers past the list
-pub layout-past : (n : ℕ) → 10 ≤ n → Unknown ≡ layoutAt n
-unfolding layoutAt layouts
-layout-past n h =
+pub format-past : (n : ℕ) → 10 ≤ n → Unknown ≡ formatAt n
+unfolding formatAt formats
+format-past n h =
     let past : n ≡ 10 + (n - 10) = omega arith in
-    sym (ap (λ (k : ℕ). getD layouts k Unknown) past ∙ getD-append-add layouts [] (n - 10) Unknown)
+    sym (ap (λ (k : ℕ). getD formats k Unknown) past ∙ getD-append-add formats [] (n - 10) Unknown)
 
 -- a number that is none of 0 to 9
 next : (n k : ℕ) → k ≤ n → (n ≡ k → ⊥) → k + 1 ≤ n
 next n k h f = omega (arith, f)
 
 pub none-listed : (n : ℕ) → (n ≡ 0 → ⊥) → (n ≡ 1 → ⊥) → (n ≡ 2 → ⊥) → (n ≡ 3 → ⊥) → (n ≡ 4 → ⊥) → (n ≡ 5 → ⊥) → (n ≡ 6 → ⊥) → (n ≡ 7 → ⊥) → (n ≡ 8 → ⊥) → (n ≡ 9 → ⊥)
-    → Unknown ≡ layoutAt n
+    → Unknown ≡ formatAt n
 none-listed n a b c d e f g h i j =
-    layout-past n (next n 9 (next n 8 (next n 7 (next n 6 (next n 5 (next n 4 (next n 3 (next n 2 (next n 1 (next n 0 (omega arith) a) b) c) d) e) f) g) h) i) j)
+    format-past n (next n 9 (next n 8 (next n 7 (next n 6 (next n 5 (next n 4 (next n 3 (next n 2 (next n 1 (next n 0 (omega arith) a) b) c) d) e) f) g) h) i) j)

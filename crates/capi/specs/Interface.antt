@@ -16,15 +16,15 @@ use Rattle.planner.specs.declared.plan.SizeBound.{SizeBound}
 use Rattle.planner.specs.declared.plan.SizeBound.the-variants as sized
 use Rattle.planner.specs.Answers.{Written, Sized}
 use Rattle.planner.specs.Calls.{called}
-use Rattle.capi.specs.declared.Layout.{Layout}
-use Rattle.capi.specs.declared.Layout.the-variants.{Known, Unknown}
+use Rattle.capi.specs.declared.SourceFormat.{SourceFormat}
+use Rattle.capi.specs.declared.SourceFormat.the-variants.{Known, Unknown}
 use Rattle.capi.specs.declared.BmpSource.{BmpSource}
 use Rattle.capi.specs.declared.BmpOptions.{BmpOptions}
 use Rattle.capi.specs.declared.BmpAnswer.{BmpAnswer}
 
 -- the formats that a caller names, 0 to 9; any other number is none
-unfoldable pub layouts : List Layout
-layouts =
+unfoldable pub formats : List SourceFormat
+formats =
     Known source.Rgba
     ∷ Known source.Rgb24
     ∷ Known source.Bgra
@@ -37,8 +37,8 @@ layouts =
     ∷ Known source.Indexed1
     ∷ []
 
-unfoldable pub layoutAt : ℕ → Layout
-layoutAt n = getD layouts n Unknown
+unfoldable pub formatAt : ℕ → SourceFormat
+formatAt n = getD formats n Unknown
 
 abbrev pub sourceOf : BmpSource → BmpPixelFormat → EncodeSource
 sourceOf s format =
@@ -91,11 +91,11 @@ pub record Bounds (i : Input) (numbers : BmpAnswer) : Type 0 where
   pub answer : numbers ≡ boundAnswer writer
 
 -- the promises: 255 before all else, and nothing changed
-abbrev pub EncodePromise : Layout → BmpSource → BmpOptions → List ℕ → List ℕ → List ℕ → List ℕ → ℕ → List ℕ → List ℕ → BmpAnswer → Type 0
+abbrev pub EncodePromise : SourceFormat → BmpSource → BmpOptions → List ℕ → List ℕ → List ℕ → List ℕ → ℕ → List ℕ → List ℕ → BmpAnswer → Type 0
 EncodePromise (Known f) source options plane palette icc linked offset was later answer =
     Encodes (called (sourceOf source f) (optionsOf options) plane palette icc linked) offset was later answer
 EncodePromise Unknown source options plane palette icc linked offset was later answer = (answer ≡ unknownFormat) × (later ≡ was)
 
-abbrev pub BoundPromise : Layout → BmpSource → BmpOptions → List ℕ → List ℕ → List ℕ → List ℕ → BmpAnswer → Type 0
+abbrev pub BoundPromise : SourceFormat → BmpSource → BmpOptions → List ℕ → List ℕ → List ℕ → List ℕ → BmpAnswer → Type 0
 BoundPromise (Known f) source options plane palette icc linked answer = Bounds (called (sourceOf source f) (optionsOf options) plane palette icc linked) answer
 BoundPromise Unknown source options plane palette icc linked answer = answer ≡ unknownFormat

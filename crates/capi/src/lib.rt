@@ -4,7 +4,7 @@ ghost use mathlib.Core.Path.{_≡_};
 ghost use mathlib.Core.List.{[], _∷_};
 ghost use Rattle.leaves.specs.Masks.{bitfieldsRows};
 ghost use Rattle.leaves.specs.Refusals.{firstNumber};
-ghost use Rattle.capi.specs.Interface.{layoutAt, sourceOf, optionsOf, encodedAnswer, boundAnswer, EncodePromise, BoundPromise};
+ghost use Rattle.capi.specs.Interface.{formatAt, sourceOf, optionsOf, encodedAnswer, boundAnswer, EncodePromise, BoundPromise};
 use leaves::bitfields::BmpBitfields;
 use leaves::bitfields::validate;
 use leaves::encoder::EncodeSource;
@@ -58,26 +58,26 @@ pub struct BmpAnswer {
 }
 
 // What a caller's format number means.
-pub enum Layout {
+pub enum SourceFormat {
     Known(BmpPixelFormat),
     Unknown,
 }
 
-fn layout_at(format: u32) -> Layout
-    ensures { λ r. ⌜ r ≡ layoutAt format ⌝ }
+fn format_at(format: u32) -> SourceFormat
+    ensures { λ r. ⌜ r ≡ formatAt format ⌝ }
 {
     match format {
-        0 => Layout::Known(BmpPixelFormat::Rgba),
-        1 => Layout::Known(BmpPixelFormat::Rgb24),
-        2 => Layout::Known(BmpPixelFormat::Bgra),
-        3 => Layout::Known(BmpPixelFormat::Bgr24),
-        4 => Layout::Known(BmpPixelFormat::Rgb555),
-        5 => Layout::Known(BmpPixelFormat::Rgb565),
-        6 => Layout::Known(BmpPixelFormat::Pal8),
-        7 => Layout::Known(BmpPixelFormat::Indexed4),
-        8 => Layout::Known(BmpPixelFormat::Indexed2),
-        9 => Layout::Known(BmpPixelFormat::Indexed1),
-        _ => Layout::Unknown,
+        0 => SourceFormat::Known(BmpPixelFormat::Rgba),
+        1 => SourceFormat::Known(BmpPixelFormat::Rgb24),
+        2 => SourceFormat::Known(BmpPixelFormat::Bgra),
+        3 => SourceFormat::Known(BmpPixelFormat::Bgr24),
+        4 => SourceFormat::Known(BmpPixelFormat::Rgb555),
+        5 => SourceFormat::Known(BmpPixelFormat::Rgb565),
+        6 => SourceFormat::Known(BmpPixelFormat::Pal8),
+        7 => SourceFormat::Known(BmpPixelFormat::Indexed4),
+        8 => SourceFormat::Known(BmpPixelFormat::Indexed2),
+        9 => SourceFormat::Known(BmpPixelFormat::Indexed1),
+        _ => SourceFormat::Unknown,
     }
 }
 
@@ -166,10 +166,10 @@ pub extern "C" fn bmp_encode_into<'a>(
     out: &mut [u8],
     offset: usize,
 ) -> BmpAnswer
-    ensures { λ r. ⌜ EncodePromise (layoutAt (source .format)) source options (now (plane .entry)) (now (palette .entry)) (now (icc .entry)) (now («linked_icc» .entry)) offset (now (out .entry)) (now (out .exit)) r ⌝ }
+    ensures { λ r. ⌜ EncodePromise (formatAt (source .format)) source options (now (plane .entry)) (now (palette .entry)) (now (icc .entry)) (now («linked_icc» .entry)) offset (now (out .entry)) (now (out .exit)) r ⌝ }
 {
-    let layout = layout_at(source.format);
-    let Layout::Known(format) = layout else {
+    let named = format_at(source.format);
+    let SourceFormat::Known(format) = named else {
         return BmpAnswer {
             bytes: 0,
             refusal: 255,
@@ -192,10 +192,10 @@ pub extern "C" fn bmp_encoded_size_bound<'a>(
     icc: &'a [u8],
     linked_icc: &'a [u8],
 ) -> BmpAnswer
-    ensures { λ r. ⌜ BoundPromise (layoutAt (source .format)) source options (now (plane .entry)) (now (palette .entry)) (now (icc .entry)) (now («linked_icc» .entry)) r ⌝ }
+    ensures { λ r. ⌜ BoundPromise (formatAt (source .format)) source options (now (plane .entry)) (now (palette .entry)) (now (icc .entry)) (now («linked_icc» .entry)) r ⌝ }
 {
-    let layout = layout_at(source.format);
-    let Layout::Known(format) = layout else {
+    let named = format_at(source.format);
+    let SourceFormat::Known(format) = named else {
         return BmpAnswer {
             bytes: 0,
             refusal: 255,

@@ -1,16 +1,16 @@
 use Rattle.capi.proofs.InterfaceLaws.{bound-known, bound-unknown}
-use Rattle.capi.specs.Interface.{layoutAt}
+use Rattle.capi.specs.Interface.{formatAt}
 use denote.Ref.{now}
 use mathlib.Core.Path.{sym, _∙_}
 use borrow.Author.Needs.{needs}
 use Rattle.capi.proofs.bmp_encoded_size_bound.Statement.{statement}
 use Rattle.capi.proofs.bmp_encoded_size_bound.Tie as tie
 
-layout-at-requires : tie.Need-layout-at-requires
-layout-at-requires c κs = tt
+format-at-requires : tie.Need-format-at-requires
+format-at-requires c κs = tt
 
-enum-known-layout : tie.Need-enum-known-layout
-enum-known-layout c = search needs
+enum-known-named : tie.Need-enum-known-named
+enum-known-named c = search needs
 
 enum-told : tie.Need-enum-told
 enum-told c = search needs
@@ -18,8 +18,8 @@ enum-told c = search needs
 returns : tie.Need-returns
 returns c =
     let a = c .before .before .before .before .before .before .before .args in
-    let l = layoutAt (a .source .format) in
-    bound-unknown l (a .source) (a .options) (now (a .plane)) (now (a .palette)) (now (a .icc)) (now (a .linked-icc)) (sym (c .enum-told .given .1) ∙ c .before .before .layout-at .ensures)
+    let l = formatAt (a .source .format) in
+    bound-unknown l (a .source) (a .options) (now (a .plane)) (now (a .palette)) (now (a .icc)) (now (a .linked-icc)) (sym (c .enum-told .given .1) ∙ c .before .before .format-at .ensures)
 
 source-of-requires : tie.Need-source-of-requires
 source-of-requires c κs = tt
@@ -36,18 +36,18 @@ bound-answer-requires c κs = tt
 returns-2 : tie.Need-returns-2
 returns-2 c =
     let a = c .before .before .before .before .before .before .before .before .before .before .before .before .args in
-    let l = layoutAt (a .source .format) in
-    let t = c .before .before .before .before .before .layout .given in
+    let l = formatAt (a .source .format) in
+    let t = c .before .before .before .before .before .named .given in
     let e = c .before .encoded-size-bound in
-    bound-known l (t .0 .0) (a .source) (a .options) (now (a .plane)) (now (a .palette)) (now (a .icc)) (now (a .linked-icc)) (c .before .before .before .source-of .result) (c .before .before .options-of .result) (sym (t .1) ∙ c .before .before .before .before .before .before .before .layout-at .ensures) (c .before .before .before .source-of .ensures) (c .before .before .options-of .ensures)
+    bound-known l (t .0 .0) (a .source) (a .options) (now (a .plane)) (now (a .palette)) (now (a .icc)) (now (a .linked-icc)) (c .before .before .before .source-of .result) (c .before .before .options-of .result) (sym (t .1) ∙ c .before .before .before .before .before .before .before .format-at .ensures) (c .before .before .before .source-of .ensures) (c .before .before .options-of .ensures)
     (e .result) (c .bound-answer .result) (e .ensures) (c .bound-answer .ensures)
 
 pub bmp-encoded-size-bound-spec : {M : Type 1} → statement M
 bmp-encoded-size-bound-spec =
     tie.close
     (tie.spec
-    layout-at-requires
-    enum-known-layout
+    format-at-requires
+    enum-known-named
     enum-told
     returns
     source-of-requires
