@@ -4,7 +4,8 @@ use mathlib.Core.List.{List, [], _∷_, map}
 use Prim.Native.Nat.{ℕ}
 use lib.ListN.{replicate}
 use Rattle.leaves.specs.Lists.{tab}
-use Rattle.format.specs.Decode.{Decoded, filled, refused, short, badCode, pastRowEnd, cellAt, pairCell, dataRead, readCode, fillRow, readRowEnd, rowsBelow, decode}
+use Rattle.format.specs.Decode.{Decoded, filled, refused, cellAt, pairCell, dataRead, readCode, fillRow, readRowEnd, rowsBelow, decode}
+use Rattle.format.specs.Shown.{short, badCode, pastRowEnd}
 
 -- bytes that a reader takes at a depth, in a picture of rows of `width` cells of which `top` are below the top row, and what it makes of them
 pub record Reading : Type 0 where

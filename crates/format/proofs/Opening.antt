@@ -17,7 +17,8 @@ use Rattle.format.proofs.HeadFields.{fields-read}
 use Rattle.leaves.specs.Masks.{hasAlphaMask, maskCompression}
 use Rattle.format.specs.Input.{Input}
 use Rattle.format.specs.Accepted.{Accepted}
-use Rattle.format.specs.Readers.{Reader, older, newer, unknownDepth, unknownCompression, Reading, refuses, Fields, fieldsOf, knowsDepth, knowsCompression, pairs, headNeeds, body, readFields, read}
+use Rattle.format.specs.Readers.{Reader, older, newer, Reading, refuses, Fields, fieldsOf, knowsDepth, knowsCompression, pairs, headNeeds, body, readFields, read}
+use Rattle.format.specs.Shown.{unknownDepth, unknownCompression}
 use Rattle.format.specs.Demand.{twoBits, alphaMasked}
 use Rattle.format.proofs.HeadWhole.{head-long, first-there}
 

@@ -1,14 +1,14 @@
 -- Heights and pictures as the readers take them.
 use mathlib.Core.Path.{_≡_, refl, ap, _∙_}
-use mathlib.Core.Bool.{Bool, true, false, cond}
+use mathlib.Core.Bool.{Bool, true, false, cond, _||_}
 use mathlib.Core.List.{List}
 use Prim.Native.Nat.{ℕ, _-_, _<_}
 use native.Mathlib.Omega.{arith}
-use borrow.Author.Tests.{le-leb, lt-leb}
-use lib.Dec.{leb}
+use borrow.Author.Tests.{le-leb, lt-leb, ne-eqb}
+use lib.Dec.{leb, eqb}
 use Rattle.leaves.specs.Lists.{tab}
 use Rattle.rows.specs.StoredRows.{rowOf}
-use Rattle.format.specs.Readers.{Fields, topFirst, shownHeight, storedAt, paletteOf, picture, shows}
+use Rattle.format.specs.Readers.{Fields, topFirst, shownHeight, paletteOf, picture, noCell, shows}
 use Rattle.format.specs.Shown.{Cell}
 use Rattle.leaves.proofs.ListLaws.{tab-ext}
 
@@ -42,16 +42,17 @@ row-stored false h y l = omega arith
 
 -- ---- pictures
 
+-- a picture with a column and a row has a cell
+pub some-cell : (t : Fields) (w h : ℕ) → 0 < w → 0 < h → t .width ≡ w → shownHeight t ≡ h → noCell t ≡ false
+some-cell t w h p q wide all = (λ z. eqb (wide z) 0 || eqb (all z) 0) ∙ rw (ne-eqb w 0 (λ e. omega arith), ne-eqb h 0 (λ e. omega arith))
+
 -- a picture shows what it must if its parts do, cell by cell
-pub picture-shown : (file : List ℕ) (t : Fields) (cell at : ℕ → ℕ → Cell) (td : Bool) (w h : ℕ) (colours : List Cell) → 0 < h → h < 2147483648
-    → t .width ≡ w → t .height ≡ cond td (4294967296 - h) h → paletteOf file t ≡ colours
-    → ((y x : ℕ) → y < h → x < w → cell (cond td y (h - 1 - y)) x ≡ at y x)
+pub picture-shown : (file : List ℕ) (t : Fields) (cell at : ℕ → ℕ → Cell) (w h : ℕ) (colours : List Cell) → t .width ≡ w → shownHeight t ≡ h → paletteOf file t ≡ colours
+    → ((y x : ℕ) → y < h → x < w → cell y x ≡ at y x)
     → picture file t cell ≡ shows (record { width = w; height = h; palette = colours; rows = tab (λ y. tab (λ x. at y x) w) h })
 unfolding picture
-picture-shown file t cell at td w h colours some tall wide high palette shown =
-    let top : topFirst t ≡ td = top-first t td h some tall high in
-    let all : shownHeight t ≡ h = height-shown t td h some tall high in
-    let rows : tab (λ y. tab (λ x. cell (storedAt t y) x) (t .width)) (shownHeight t) ≡ tab (λ y. tab (λ x. at y x) w) h
-    = (λ z. tab (λ y. tab (λ x. cell (cond (top z) y (all z - 1 - y)) x) (wide z)) (all z))
+picture-shown file t cell at w h colours wide all palette shown =
+    let rows : tab (λ y. tab (λ x. cell y x) (t .width)) (shownHeight t) ≡ tab (λ y. tab (λ x. at y x) w) h
+    = (λ z. tab (λ y. tab (λ x. cell y x) (wide z)) (all z))
     ∙ tab-ext _ _ h (λ y l. tab-ext _ _ w (λ x k. shown y x l k)) in
     λ z. shows (record { width = wide z; height = all z; palette = palette z; rows = rows z })

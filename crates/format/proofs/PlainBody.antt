@@ -5,7 +5,7 @@ use mathlib.Core.List.{List, _++_}
 use Prim.Native.Nat.{ℕ, suc, _+_, _-_, _*_, _/_, _≤_, _<_}
 use native.Mathlib.Nat.{suc-mul, mul-comm}
 use native.Mathlib.Omega.{arith}
-use borrow.Author.Tests.{le-ltb, eqb-false}
+use borrow.Author.Tests.{le-ltb}
 use lib.Dec.{eqb}
 use lib.ListN.{length, getD, drop}
 use lib.Seq.{drop-drop}
@@ -24,11 +24,11 @@ use Rattle.rows.specs.StoredRows.{storedRow, storedRows, packBits, packBytes, r
 use Rattle.format.specs.Accepted.{Accepted}
 use Rattle.format.specs.Expectation.{pixelBytes, handed, plainlyShown, fittedShown, cellShown, paletteShown, expected}
 use Rattle.format.specs.Input.{Input}
-use Rattle.format.specs.Readers.{shows, fieldsOf, shownHeight, rowLength, cellWord, rgbCell, maskCell, plainCell, paletteOf, picture, pixelNeeds, body}
+use Rattle.format.specs.Readers.{shows, fieldsOf, topFirst, shownHeight, storedAt, noCell, rowLength, cellWord, rgbCell, maskCell, plainCell, paletteOf, picture, pixelNeeds, body}
 use Rattle.format.specs.Shown.{Cell}
 use Rattle.rows.proofs.AllRows.{rowAt, length-rowAt}
 use Rattle.format.proofs.MaskedCells.{masked-cell}
-use Rattle.format.proofs.Pictures.{height-shown, row-back, row-stored, picture-shown}
+use Rattle.format.proofs.Pictures.{top-first, height-shown, row-back, row-stored, some-cell, picture-shown}
 use Rattle.format.proofs.PlainCells.{length-row, plain-cell, rgb565-cell}
 use Rattle.format.proofs.SourceRows.{length-source, source-at, source-small, within, plainly-of, fitted-of, Begins, joined-at}
 
@@ -114,16 +114,12 @@ cells-short : (n : ℕ) → (n + 7) / 8 ≤ (n + 31) / 32 * 4
 cells-short n = omega arith
 
 -- all rows but the last whole, and the last one's cells, are no longer than all rows
-needs-le : (o h w d len : ℕ) → o + rowStride w d * h ≤ len → cond (eqb h 0) 0 (o + (h - 1) * rowLength w d + (w * d + 7) / 8) ≤ len
+needs-le : (o h w d len : ℕ) → 0 < h → o + rowStride w d * h ≤ len → o + (h - 1) * rowLength w d + (w * d + 7) / 8 ≤ len
 unfolding rowStride
-needs-le o h w d len k = rw (length-row d w) (go (eqb h 0) refl)
-  where
-    go : (b : Bool) → eqb h 0 ≡ b → cond b 0 (o + (h - 1) * rowStride w d + (w * d + 7) / 8) ≤ len
-    go true e = omega arith
-    go false e =
-        let r : ℕ = rowStride w d in
-        let q : h ≡ suc (h - 1) = omega (arith, eqb-false h 0 e) in
-        omega (arith, k, cells-short (w * d), suc-mul (h - 1) r, mul-comm r (suc (h - 1)), ap (λ (z : ℕ). r * z) q)
+needs-le o h w d len some k =
+    let r : ℕ = rowStride w d in
+    let q : h ≡ suc (h - 1) = omega arith in
+    rw (length-row d w) (omega (arith, k, cells-short (w * d), suc-mul (h - 1) r, mul-comm r (suc (h - 1)), ap (λ (z : ℕ). r * z) q))
 
 -- ---- the call
 
@@ -222,6 +218,9 @@ module _ (i : Input) (a : Accepted i) (no : streamUsed maxFile i ≡ false) wher
       go true = masked-rows (i .options .bitfields .masks)
       go false = plain-rows (isRgb565 (i .source .format))
 
+  top : topFirst (fieldsIn i) ≡ i .options .«top_down»
+  top = top-first (fieldsIn i) (i .options .«top_down») (i .source .height) (a .some-height) (a .tall) refl
+
   tall : shownHeight (fieldsIn i) ≡ i .source .height
   tall = height-shown (fieldsIn i) (i .options .«top_down») (i .source .height) (a .some-height) (a .tall) refl
 
@@ -251,8 +250,8 @@ module _ (i : Input) (a : Accepted i) (no : streamUsed maxFile i ≡ false) wher
   rows-long =
       let d : ℕ = depthIn i in
       let w : ℕ = i .source .width in
-      rw (ap (λ (n : ℕ). cond (eqb n 0) 0 (headBytes i + (n - 1) * rowLength w d + (w * d + 7) / 8)) tall)
-      (needs-le (headBytes i) (i .source .height) w d (length file) (omega (arith, file-long)))
+      rw (ap (λ (n : ℕ). headBytes i + (n - 1) * rowLength w d + (w * d + 7) / 8) tall)
+      (needs-le (headBytes i) (i .source .height) w d (length file) (a .some-height) (omega (arith, file-long)))
 
   -- the palette
   colours : paletteOf file (fieldsIn i) ≡ paletteShown i
@@ -262,6 +261,8 @@ module _ (i : Input) (a : Accepted i) (no : streamUsed maxFile i ≡ false) wher
   pub plain-body : body file (fieldsOf file) ≡ shows (expected i)
   unfolding body expected
   plain-body =
-      rw (fields-read i a, rows-code, le-ltb (length file) (pixelNeeds (fieldsIn i)) rows-long)
-      (picture-shown file (fieldsIn i) (plainCell file (fieldsIn i)) (cellShown i) (i .options .«top_down») (i .source .width) (i .source .height) (paletteShown i)
-      (a .some-height) (a .tall) refl refl colours cell-shown)
+      let some : noCell (fieldsIn i) ≡ false = some-cell (fieldsIn i) (i .source .width) (i .source .height) (a .some-width) (a .some-height) refl tall in
+      rw (fields-read i a, some, rows-code, le-ltb (length file) (pixelNeeds (fieldsIn i)) rows-long)
+      (picture-shown file (fieldsIn i) (λ y x. plainCell file (fieldsIn i) (storedAt (fieldsIn i) y) x) (cellShown i) (i .source .width) (i .source .height) (paletteShown i)
+      refl tall colours
+      (λ y x l k. (λ z. plainCell file (fieldsIn i) (cond (top z) y (tall z - 1 - y)) x) ∙ cell-shown y x l k))

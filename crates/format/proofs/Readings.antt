@@ -13,7 +13,8 @@ use Rattle.format.specs.Refusals.{writeRows}
 use Rattle.format.proofs.Acceptance.{accepted}
 use Rattle.format.proofs.PlainBody.{plain-body}
 use Rattle.format.specs.Input.{Input}
-use Rattle.format.specs.Readers.{unknownDepth, unknownCompression, Reading, shows, refuses, fieldsOf, body}
+use Rattle.format.specs.Readers.{Reading, shows, refuses, fieldsOf, body}
+use Rattle.format.specs.Shown.{unknownDepth, unknownCompression}
 use Rattle.format.proofs.Opening.{newer-opens, older-opens}
 use Rattle.format.proofs.StreamBody.{stream-body}
 

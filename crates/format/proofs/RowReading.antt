@@ -11,7 +11,8 @@ use lib.ListN.{length, take, drop, length-append, length-take, take-append-drop,
 use lib.Seq.{drop-nil, drop-append-seam, take-add, drop-at, length-take-le, getD-take}
 use Rattle.leaves.specs.Lists.{tab}
 use Rattle.leaves.proofs.ListLaws.{length-tab, tab-ext}
-use Rattle.format.specs.Decode.{pastRowEnd, short, Decoded, filled, refused, behind, andThen, cellAt, pairCell, dataRead, readCode, unlessFull, fillRow, readRow}
+use Rattle.format.specs.Decode.{Decoded, filled, refused, behind, andThen, cellAt, pairCell, dataRead, readCode, unlessFull, fillRow, readRow}
+use Rattle.format.specs.Shown.{short, pastRowEnd}
 
 -- ---- one code
 

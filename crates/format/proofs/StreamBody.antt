@@ -22,12 +22,12 @@ use Rattle.rows.specs.Stream.{stream}
 use Rattle.format.specs.Accepted.{Accepted}
 use Rattle.format.specs.Expectation.{pixelBytes, handed, plainlyShown, cellShown, paletteShown, expected}
 use Rattle.format.specs.Input.{Input}
-use Rattle.format.specs.Readers.{Fields, fieldsOf, shownHeight, paletteOf, streamed, body, shows}
+use Rattle.format.specs.Readers.{Fields, fieldsOf, shownHeight, noCell, paletteOf, streamed, body, shows}
 use Rattle.format.specs.Shown.{Cell, index}
 use Rattle.leaves.proofs.ListLaws.{getD-cat}
 use Rattle.format.proofs.Decoding.{decode-stream}
 use Rattle.rows.proofs.Scans.{length-cells, cell-at}
-use Rattle.format.proofs.Pictures.{height-shown, picture-shown}
+use Rattle.format.proofs.Pictures.{height-shown, some-cell, picture-shown}
 use Rattle.format.proofs.SourceRows.{length-source, source-at}
 
 -- ---- any stream
@@ -68,20 +68,21 @@ stream-read d w (suc m) plane stride rest deep some inside long =
 
 -- a reader that finds the stream shows the indices of the plane
 body-read : (file : List ℕ) (t : Fields) (d w h : ℕ) (colours : List Cell) (plane : List ℕ) (stride : ℕ) (rest : List ℕ) (cell : ℕ → ℕ → Cell)
-    → (d ≡ 4) ⊎ (d ≡ 8) → 0 < h → h < 2147483648 → w * 1 ≤ stride → stride * h ≤ length plane
+    → (d ≡ 4) ⊎ (d ≡ 8) → 0 < w → 0 < h → h < 2147483648 → w * 1 ≤ stride → stride * h ≤ length plane
     → t .width ≡ w → t .height ≡ h → t .depth ≡ d → paletteOf file t ≡ colours → (eqb (t .compression) 1 || eqb (t .compression) 2) ≡ true
     → drop (t .offset) file ≡ stream d w h plane stride ++ rest
     → ((y x : ℕ) → cell y x ≡ index (getD plane (y * stride + x * 1 + 0) 0 % 2 ^ d))
     → body file t ≡ shows (record { width = w; height = h; palette = colours; rows = tab (λ y. tab (λ x. cell y x) w) h })
 unfolding body streamed
-body-read file t d w h colours plane stride rest cell deep some tall inside long wide high bits palette kind at shown =
+body-read file t d w h colours plane stride rest cell deep broad some tall inside long wide high bits palette kind at shown =
     let all : shownHeight t ≡ h = height-shown t false h some tall high in
     let found : decode (t .depth) (t .width) (drop (t .offset) file) (shownHeight t - 1) ≡ filled (allCells d w h plane stride) (length (stream d w h plane stride) - 2)
     = (λ z. decode (bits z) (wide z) (at z) (all z - 1)) ∙ stream-read d w h plane stride rest deep some inside long in
-    rw kind (ap (streamed file t) found)
-    ∙ picture-shown file t (λ s x. index (getD (allCells d w h plane stride) (s * t .width + x) 0)) cell false w h colours some tall wide high palette
+    let full : noCell t ≡ false = some-cell t w h broad some wide all in
+    rw (full, kind) (ap (streamed file t) found)
+    ∙ picture-shown file t (λ y x. index (getD (allCells d w h plane stride) ((shownHeight t - 1 - y) * t .width + x) 0)) cell w h colours wide all palette
     (λ y x l k.
-    ap (λ (n : ℕ). index (getD (allCells d w h plane stride) ((h - 1 - y) * n + x) 0)) wide
+    (λ z. index (getD (allCells d w h plane stride) ((all z - 1 - y) * wide z + x) 0))
     ∙ ap index (cell-filled d w h plane stride inside long y x l k) ∙ sym (shown y x))
 
 -- ---- the sources that are coded
@@ -141,6 +142,6 @@ stream-body i a used =
     = ap (λ (t : Fields). t .compression) read ∙ kind-read i used in
     let at : drop (fieldsOf (fileOf maxFile i) .offset) (fileOf maxFile i) ≡ _ = ap (λ (n : ℕ). drop n (fileOf maxFile i)) offset ∙ stream-at i used in
     body-read (fileOf maxFile i) (fieldsOf (fileOf maxFile i)) (bitsPerPixel (i .source .format)) (i .source .width) (i .source .height) (paletteShown i) (i .plane) (i .source .stride)
-    (tailOf i) (cellShown i) (c .deep) (a .some-height) (a .tall) (rw (← c .one) (a .rows-inside)) (a .plane-long) wide high bits
+    (tailOf i) (cellShown i) (c .deep) (a .some-width) (a .some-height) (a .tall) (rw (← c .one) (a .rows-inside)) (a .plane-long) wide high bits
     (palette-read i a) (rw kind (c .kind)) at
     (index-shown i (parts .planned .unmasked) c)

@@ -10,7 +10,8 @@ use borrow.Author.Tests.{ltb-true, ltb-false, lt-ltb}
 use lib.Dec.{ltb}
 use lib.ListN.{length, take, drop, length-append, length-drop}
 use lib.Seq.{take-all, take-add, take-at, drop-at, length-take-le, take-append-le, drop-append-le}
-use Rattle.format.specs.Decode.{StreamCause, Decoded, filled, refused, behind, andThen, readCode, readRow, readRowEnd, rowsBelow, decode}
+use Rattle.format.specs.Decode.{Decoded, filled, refused, behind, andThen, readCode, readRow, readRowEnd, rowsBelow, decode}
+use Rattle.format.specs.Shown.{Cause}
 use Rattle.format.proofs.RowReading.{row-length, row-alone}
 
 -- ---- two readings, one after the other
@@ -27,13 +28,13 @@ record Both (first : Decoded) (next : List ℕ → ℕ → Decoded) (all : List 
   bytes : n ≡ taken + m
 
 -- the second is refused
-record Second (first : Decoded) (next : List ℕ → ℕ → Decoded) (cause : StreamCause) : Type 0 where
+record Second (first : Decoded) (next : List ℕ → ℕ → Decoded) (cause : Cause) : Type 0 where
   cells : List ℕ
   taken : ℕ
   earlier : first ≡ filled cells taken
   later : next cells taken ≡ refused cause
 
-not-both : {cause : StreamCause} {cells : List ℕ} {n : ℕ} → refused cause ≡ filled cells n → ⊥
+not-both : {cause : Cause} {cells : List ℕ} {n : ℕ} → refused cause ≡ filled cells n → ⊥
 not-both e = let z : _≡_ {A = ℕ} 0 1 = cc in omega arith
 
 both-read : (first : Decoded) (next : List ℕ → ℕ → Decoded) {all : List ℕ} {n : ℕ} → andThen first next ≡ filled all n → Both first next all n
@@ -44,7 +45,7 @@ both-read (filled cells taken) next {all} {n} e = go (next cells taken) refl e
     go (refused cause) q e = absurd (not-both e)
     go (filled more m) q e = record { cells = cells; taken = taken; more = more; m = m; earlier = refl; later = q; together = cc; bytes = cc }
 
-one-refused : (first : Decoded) (next : List ℕ → ℕ → Decoded) {cause : StreamCause} → andThen first next ≡ refused cause
+one-refused : (first : Decoded) (next : List ℕ → ℕ → Decoded) {cause : Cause} → andThen first next ≡ refused cause
     → (first ≡ refused cause) ⊎ Second first next cause
 one-refused (refused c) next e = inl e
 one-refused (filled cells taken) next {cause} e = go (next cells taken) refl e
@@ -192,7 +193,7 @@ module _ (d w : ℕ) (bs : List ℕ) where
   -- ---- a stream that is refused
 
   -- a refusal below stays
-  pub rows-refused : (s top : ℕ) {cause : StreamCause} → rowsBelow d w bs s ≡ refused cause → s ≤ top → rowsBelow d w bs top ≡ refused cause
+  pub rows-refused : (s top : ℕ) {cause : Cause} → rowsBelow d w bs s ≡ refused cause → s ≤ top → rowsBelow d w bs top ≡ refused cause
   unfolding rowsBelow
   rows-refused s zero e h = let z : s ≡ 0 = omega arith in rw z at e
   rows-refused s (suc top) {cause} e h = go (ltb top s) refl (rows-refused s top e)
@@ -202,7 +203,7 @@ module _ (d w : ℕ) (bs : List ℕ) where
       go false l f = rw (f (ltb-false top s l))
 
   -- a row that is refused, where those below it are read
-  pub refused-row : (s top : ℕ) {below : List ℕ} {place : ℕ} {cause : StreamCause} → rowsBelow d w bs s ≡ filled below place
+  pub refused-row : (s top : ℕ) {below : List ℕ} {place : ℕ} {cause : Cause} → rowsBelow d w bs s ≡ filled below place
       → readRow d w (drop place bs) ≡ refused cause → s ≤ top → decode d w bs top ≡ refused cause
   unfolding decode rowsBelow readRowEnd
   refused-row s top {cause = c} e f h = go (ltb s top) refl
@@ -212,7 +213,7 @@ module _ (d w : ℕ) (bs : List ℕ) where
       go false l = let last : top ≡ s = omega (arith, ltb-false s top l) in rw (last, e, f)
 
   -- a code between two rows that is refused, where the rows below it are read
-  pub refused-end : (s top : ℕ) {below row : List ℕ} {place n : ℕ} {cause : StreamCause} → rowsBelow d w bs s ≡ filled below place
+  pub refused-end : (s top : ℕ) {below row : List ℕ} {place n : ℕ} {cause : Cause} → rowsBelow d w bs s ≡ filled below place
       → readRow d w (drop place bs) ≡ filled row n → readCode d 0 (drop n (drop place bs)) ≡ refused cause → s < top → decode d w bs top ≡ refused cause
   unfolding decode rowsBelow readRowEnd
   refused-end s top {cause = c} e f g h =
@@ -220,16 +221,16 @@ module _ (d w : ℕ) (bs : List ℕ) where
       rw (rows-refused (suc s) top q h)
 
   -- what is refused first, where the rows below it are read: a row, or the code between two rows
-  pub data Refusal (top : ℕ) (cause : StreamCause) : Type 0 where
+  pub data Refusal (top : ℕ) (cause : Cause) : Type 0 where
     atRow : (s place : ℕ) (below : List ℕ) → s ≤ top → rowsBelow d w bs s ≡ filled below place → readRow d w (drop place bs) ≡ refused cause → Refusal top cause
     atEnd : (s place n : ℕ) (below row : List ℕ) → s < top → rowsBelow d w bs s ≡ filled below place → readRow d w (drop place bs) ≡ filled row n
         → readCode d 0 (drop n (drop place bs)) ≡ refused cause → Refusal top cause
 
-  raise : (t : ℕ) {cause : StreamCause} → Refusal t cause → Refusal (suc t) cause
+  raise : (t : ℕ) {cause : Cause} → Refusal t cause → Refusal (suc t) cause
   raise t (atRow s place below h e f) = atRow s place below (omega arith) e f
   raise t (atEnd s place n below row h e f g) = atEnd s place n below row (omega arith) e f g
 
-  rows-refusal : (t : ℕ) {cause : StreamCause} → rowsBelow d w bs t ≡ refused cause → Refusal t cause
+  rows-refusal : (t : ℕ) {cause : Cause} → rowsBelow d w bs t ≡ refused cause → Refusal t cause
   unfolding rowsBelow readRowEnd
   rows-refusal zero e = absurd (not-both (sym e))
   rows-refusal (suc t) {cause} e = go (one-refused (rowsBelow d w bs t) (λ cells place. readRowEnd d w (drop place bs)) e) (rows-refusal t)
@@ -245,7 +246,7 @@ module _ (d w : ℕ) (bs : List ℕ) where
       go (inr q) f = here (q .taken) (q .cells) (q .earlier) (one-refused _ _ (q .later))
 
   -- a stream is refused for the first row that is refused, or the first code between two rows
-  pub decode-refused : (top : ℕ) {cause : StreamCause} → decode d w bs top ≡ refused cause → Refusal top cause
+  pub decode-refused : (top : ℕ) {cause : Cause} → decode d w bs top ≡ refused cause → Refusal top cause
   unfolding decode
   decode-refused top {cause} e = go (one-refused (rowsBelow d w bs top) (λ cells place. readRow d w (drop place bs)) e)
     where

@@ -6,15 +6,12 @@ use Prim.Native.Nat.{ℕ, zero, suc, _+_, _-_, _*_, _/_, _%_, _^_}
 use lib.Dec.{ltb, eqb}
 use lib.ListN.{length, getD, drop}
 use Rattle.leaves.specs.Lists.{tab}
-
--- why a stream is refused: a needed byte past the end; a code that means nothing here; a step over the row's end
-pub data StreamCause : Type 0 where
-  short badCode pastRowEnd : StreamCause
+use Rattle.format.specs.Shown.{Cause, short, badCode, pastRowEnd}
 
 -- the cells that are filled from a place on, in stored order, and how many bytes they take; or the cause
 pub data Decoded : Type 0 where
   filled : List ℕ → ℕ → Decoded
-  refused : StreamCause → Decoded
+  refused : Cause → Decoded
 
 -- what is read behind cells that take `taken` bytes
 abbrev pub behind : List ℕ → ℕ → Decoded → Decoded

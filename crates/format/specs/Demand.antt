@@ -8,7 +8,8 @@ use lib.ListN.{getD}
 use Rattle.leaves.specs.declared.image.BmpPixelFormat.{BmpPixelFormat}
 use Rattle.leaves.specs.declared.image.BmpPixelFormat.the-variants.{Rgba, Rgb24, Bgra, Bgr24, Rgb555, Rgb565, Pal8, Indexed4, Indexed2, Indexed1}
 use Rattle.format.specs.Input.{Input}
-use Rattle.format.specs.Readers.{Reader, older, newer, Cause, unknownDepth, unknownCompression, Reading, shows, refuses, read}
+use Rattle.format.specs.Readers.{Reader, older, newer, Reading, shows, refuses, read}
+use Rattle.format.specs.Shown.{unknownDepth, unknownCompression}
 use Rattle.format.specs.Expectation.{expected}
 
 -- "cells have 2 bits"

@@ -7,17 +7,12 @@ use lib.Count.{trailingZeros}
 use lib.Dec.{ltb, leb, eqb}
 use lib.ListN.{length, getD, drop}
 use Rattle.leaves.specs.Lists.{tab}
-use Rattle.format.specs.Decode.{StreamCause, Decoded, filled, refused, cellAt, decode}
-use Rattle.format.specs.Shown.{Cell, index, rgb, rgba, Shown}
+use Rattle.format.specs.Decode.{Decoded, filled, refused, cellAt, decode}
+use Rattle.format.specs.Shown.{Cell, index, rgb, rgba, Cause, unknownDepth, unknownCompression, pairing, short, Shown}
 
 -- the older one "knows only the 40-byte header fields", the newer one "also the 108- and 124-byte headers, 2-bit cells and alpha masks"
 pub data Reader : Type 0 where
   older newer : Reader
-
--- why a file is refused
-pub data Cause : Type 0 where
-  unknownDepth unknownCompression pairing short : Cause
-  badStream : StreamCause → Cause
 
 pub data Reading : Type 0 where
   shows : Shown → Reading
@@ -33,11 +28,14 @@ dwordAt file at = wordAt file at + 65536 * wordAt file (at + 2)
 
 -- ---- the fields that a reader uses
 
+-- No other byte of the first 54 is looked at: "a depth or compression it doesn't know, compression 1 off depth 8, 2 off 4, 3 or 6 off 16 and 32, or a
+-- needed byte past the end" are all refusals of a head, so no mark, header size, width, height or count of colours is refused for its value.
 pub record Fields : Type 0 where
   -- bfOffBits
   pub offset : ℕ
-  -- biSize
+  -- biSize; below 40 the fields stand where they stand, and the table begins among them
   pub headerSize : ℕ
+  -- biWidth, a LONG, as its 32 bits: no width is refused, so one with the top bit set is a count like any other, of columns that no file holds
   pub width : ℕ
   -- biHeight, as its 32 bits
   pub height : ℕ
@@ -65,7 +63,7 @@ topFirst t = leb 2147483648 (t .height)
 abbrev pub shownHeight : Fields → ℕ
 shownHeight t = cond (topFirst t) (4294967296 - t .height) (t .height)
 
--- "at depths up to 8 a table count of 0 means 2^depth, and deeper files have no table"
+-- "at depths up to 8 a table count of 0 means 2^depth, and deeper files have no table"; a count over 2^depth is that many entries
 unfoldable pub tableCount : Fields → ℕ
 tableCount t = cond (leb (t .depth) 8) (cond (eqb (t .colours) 0) (2 ^ t .depth) (t .colours)) 0
 
@@ -110,11 +108,11 @@ rgbCell d row x =
     cond (leb d 8) (index (cellAt d row x))
     (cond (eqb d 16) (five (cellWord 16 row x)) (rgb (getD row (x * d / 8 + 2) 0) (getD row (x * d / 8 + 1) 0) (getD row (x * d / 8) 0)))
 
--- "a channel is the bits under its mask, moved down to bit 0, or 0 for a zero mask"
+-- "a channel is the bits under its mask, moved down to bit 0, or 0 for a zero mask": by the place of the mask's lowest one, with a gap kept as it is
 unfoldable pub channel : ℕ → ℕ → ℕ
 channel mask v = cond (eqb mask 0) 0 (bitAnd v mask / 2 ^ trailingZeros 32 mask)
 
--- "colour masks from bytes 54 to 65"; "for 6 the newer one shows alpha too, its mask at bytes 66 to 69"
+-- "colour masks from bytes 54 to 65"; "for 6 the newer one shows alpha too, its mask at bytes 66 to 69", so with a zero mask there alpha is shown as 0
 unfoldable pub maskCell : List ℕ → ℕ → ℕ → Cell
 maskCell file c v =
     cond (eqb c 6)
@@ -128,7 +126,7 @@ plainCell file t s x =
 
 -- ---- what is shown
 
--- the stored row that is shown as row y
+-- the plain row that is shown as row y
 abbrev pub storedAt : Fields → ℕ → ℕ
 storedAt t y = cond (topFirst t) y (shownHeight t - 1 - y)
 
@@ -143,27 +141,32 @@ picture file t cell =
       width = t .width;
       height = shownHeight t;
       palette = paletteOf file t;
-      rows = tab (λ y. tab (λ x. cell (storedAt t y) x) (t .width)) (shownHeight t);
+      rows = tab (λ y. tab (λ x. cell y x) (t .width)) (shownHeight t);
     })
 
--- a stream fills the rows in stored order, bottom first
+-- "at column 0 of the bottom row": a stream fills the rows bottom first, whatever the height's sign
 unfoldable pub streamed : List ℕ → Fields → Decoded → Reading
-streamed file t (filled cells taken) = picture file t (λ s x. index (getD cells (s * t .width + x) 0))
-streamed file t (refused cause) = refuses (badStream cause)
+streamed file t (filled cells taken) = picture file t (λ y x. index (getD cells ((shownHeight t - 1 - y) * t .width + x) 0))
+streamed file t (refused cause) = refuses cause
 
--- the bytes of fields, masks and table that are needed
+-- the bytes of header, masks and table that are needed: as many as the header's own size says, though its later fields are not used, and the first 54
 unfoldable pub headNeeds : Fields → ℕ
 headNeeds t = max (14 + t .headerSize + tableCount t * 4) (cond (eqb (t .compression) 6) 70 (cond (eqb (t .compression) 3) 66 54))
 
--- bytes of the last stored row that hold cells, and the rows before it whole
+-- the plain rows before the last one whole, and the bytes of the last one that hold cells: a 32-bit cell's fourth byte is one of them, padding is not
 unfoldable pub pixelNeeds : Fields → ℕ
-pixelNeeds t = cond (eqb (shownHeight t) 0) 0 (t .offset + (shownHeight t - 1) * rowLength (t .width) (t .depth) + (t .width * t .depth + 7) / 8)
+pixelNeeds t = t .offset + (shownHeight t - 1) * rowLength (t .width) (t .depth) + (t .width * t .depth + 7) / 8
+
+-- "Nothing past the top row's last cell is read": of a picture without a cell no row and no code is, wherever the pixel offset points
+abbrev pub noCell : Fields → Bool
+noCell t = eqb (t .width) 0 || eqb (shownHeight t) 0
 
 unfoldable pub body : List ℕ → Fields → Reading
 body file t =
-    cond (eqb (t .compression) 1 || eqb (t .compression) 2)
+    cond (noCell t) (picture file t (λ y x. index 0))
+    (cond (eqb (t .compression) 1 || eqb (t .compression) 2)
     (streamed file t (decode (t .depth) (t .width) (drop (t .offset) file) (shownHeight t - 1)))
-    (cond (ltb (length file) (pixelNeeds t)) (refuses short) (picture file t (plainCell file t)))
+    (cond (ltb (length file) (pixelNeeds t)) (refuses short) (picture file t (λ y x. plainCell file t (storedAt t y) x))))
 
 unfoldable pub readFields : Reader → List ℕ → Fields → Reading
 readFields r file t =
@@ -172,6 +175,7 @@ readFields r file t =
     (cond (not (pairs (t .compression) (t .depth))) (refuses pairing)
     (cond (ltb (length file) (headNeeds t)) (refuses short) (body file t))))
 
--- what a reader makes of the bytes
+-- What a reader makes of the bytes. The causes are tried in this order: the first 54 bytes, depth, compression, pairing, the rest of the head, then the
+-- pixels, in the order in which they are read.
 unfoldable pub read : Reader → List ℕ → Reading
 read r file = cond (ltb (length file) 54) (refuses short) (readFields r file (fieldsOf file))
