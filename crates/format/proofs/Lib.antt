@@ -13,6 +13,7 @@ pub mod HeadTable
 pub mod HeadWhole
 pub mod MaskedCells
 pub mod Modes
+pub mod OddFiles
 pub mod Opening
 pub mod Passing
 pub mod Pictures

@@ -42,9 +42,10 @@ answers =
     ∷ answer (sevens 0 0 0) maxFile 100 0 1
     ∷ answer (sevens 2147483647 2147483647 0) maxFile 100 0 12
     ∷ answer (sevens 2147483648 2147483648 0) maxFile 100 0 2
-    -- indices without a palette, whose slice is not looked at; with one of 3 bytes
+    -- indices without a palette, whose slice is not looked at; with one of 3 bytes; with one of 6
     ∷ answer (call (oneRow Pal8 1 1 false false false) defaults (7 ∷ []) (1 ∷ 2 ∷ 3 ∷ []) [] []) maxFile 2000 0 3
     ∷ answer (call (oneRow Pal8 1 1 true false false) defaults (7 ∷ []) (1 ∷ 2 ∷ 3 ∷ []) [] []) maxFile 2000 0 4
+    ∷ answer (call (oneRow Pal8 1 1 true false false) defaults (7 ∷ []) (1 ∷ 2 ∷ 3 ∷ 4 ∷ 5 ∷ 6 ∷ []) [] []) maxFile 2000 0 4
     -- masks beside calibrated colour; masks of a depth of 24; green in red's place; masks for words
     ∷ answer (call (oneRow Rgb24 1 3 false false false) (withMasks 16 good true) (1 ∷ 2 ∷ 3 ∷ []) [] [] []) maxFile 100 0 5
     ∷ answer (call (oneRow Rgb24 1 3 false false false) (withMasks 24 good false) (1 ∷ 2 ∷ 3 ∷ []) [] [] []) maxFile 100 0 6
