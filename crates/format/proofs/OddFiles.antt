@@ -1,14 +1,15 @@
 -- Files that the writer never writes, through both readers, by computation. They pin what the readers do where no written file leads: each refusal
 -- with its cause, and what is shown of a field that has a strange value.
 use mathlib.Core.Path.{_≡_, refl}
+use mathlib.Core.Bool.{Bool, true, false, cond}
 use mathlib.Core.List.{List, [], _∷_, _++_, map}
 use Prim.Native.Nat.{ℕ, _-_}
 use lib.Count.{trailingZeros}
 use lib.ListN.{replicate, take}
 use Rattle.leaves.specs.Bytes.{le16, le32}
-use Rattle.leaves.specs.Lists.{tab}
+use Rattle.leaves.specs.Lists.{tab, cat}
 use Rattle.format.specs.Decode.{cellAt, pairCell, dataRead, readCode, fillRow, readRowEnd, rowsBelow, decode}
-use Rattle.format.specs.Readers.{older, newer, Reading, shows, refuses, wordAt, dwordAt, fieldsOf, tableCount, knowsDepth, knowsCompression, pairs, rowLength, cellWord, rgbCell, channel, maskCell, plainCell, paletteOf, picture, streamed, headNeeds, pixelNeeds, body, readFields, read}
+use Rattle.format.specs.Readers.{Reader, older, newer, Reading, shows, refuses, wordAt, dwordAt, fieldsOf, tableCount, knowsDepth, knowsCompression, pairs, rowLength, cellWord, rgbCell, channel, maskCell, plainCell, paletteOf, picture, streamed, headNeeds, pixelNeeds, body, readFields, read}
 use Rattle.format.specs.Shown.{Cell, index, rgb, rgba, unknownDepth, unknownCompression, pairing, short, badCode, pastRowEnd}
 
 -- a file, and what each reader makes of it
@@ -181,3 +182,32 @@ files =
 pub files-hold : map (λ (e : OddFile). apart (e .file) (read older (e .file)) (read newer (e .file))) files ≡ files
 unfolding read readFields fieldsOf wordAt dwordAt knowsDepth knowsCompression pairs headNeeds tableCount body pixelNeeds rowLength picture paletteOf plainCell rgbCell maskCell cellWord channel trailingZeros streamed decode rowsBelow readRowEnd fillRow readCode pairCell cellAt dataRead tab le16 le32
 files-hold = refl
+
+-- ---- depths and compressions
+
+-- whether a reader takes the depth and the compression, and the two together
+abbrev pub takes : Reading → Bool
+takes (shows picture) = true
+takes (refuses unknownDepth) = false
+takes (refuses unknownCompression) = false
+takes (refuses pairing) = false
+takes (refuses short) = true
+takes (refuses badCode) = true
+takes (refuses pastRowEnd) = true
+
+-- the compressions up to 8, each with the depths up to 64 at which a reader takes it
+unfoldable pub taken : Reader → List (ℕ × ℕ)
+taken r = cat (λ c. cat (λ d. cond (takes (read r (kind d c))) ((c, d) ∷ []) []) 65) 9
+
+-- "The older one knows depths 1, 4, 8, 16, 24, 32 and compressions 0 to 3"; "compression 1 off depth 8, 2 off 4, 3 or 6 off 16 and 32" is refused
+abbrev pub olderTakes : List (ℕ × ℕ)
+olderTakes = (0, 1) ∷ (0, 4) ∷ (0, 8) ∷ (0, 16) ∷ (0, 24) ∷ (0, 32) ∷ (1, 8) ∷ (2, 4) ∷ (3, 16) ∷ (3, 32) ∷ []
+
+-- "also .. 2-bit cells and alpha masks"
+abbrev pub newerTakes : List (ℕ × ℕ)
+newerTakes = (0, 1) ∷ (0, 2) ∷ (0, 4) ∷ (0, 8) ∷ (0, 16) ∷ (0, 24) ∷ (0, 32) ∷ (1, 8) ∷ (2, 4) ∷ (3, 16) ∷ (3, 32) ∷ (6, 16) ∷ (6, 32) ∷ []
+
+-- each takes these and no others
+pub taken-hold : map taken (older ∷ newer ∷ []) ≡ (olderTakes ∷ newerTakes ∷ [])
+unfolding taken cat read readFields fieldsOf wordAt dwordAt knowsDepth knowsCompression pairs headNeeds tableCount body pixelNeeds rowLength picture paletteOf plainCell rgbCell maskCell cellWord channel trailingZeros streamed decode rowsBelow readRowEnd fillRow readCode pairCell cellAt dataRead tab le16 le32
+taken-hold = refl
