@@ -1,6 +1,6 @@
 -- With the promises of its calls, the port answers as the original.
 use mathlib.Core.Path.{_≡_, refl, sym, ap, _∙_, subst}
-use mathlib.Core.Bool.{Bool, false, cond}
+use mathlib.Core.Bool.{Bool, true, false, cond}
 use mathlib.Core.List.{List, [], _∷_}
 use Prim.Native.Nat.{ℕ}
 use lib.ListN.{length}
@@ -8,7 +8,7 @@ use Rattle.leaves.specs.declared.error.Check.{Check}
 use Rattle.leaves.specs.declared.error.Check.the-variants.{Passed, Refused}
 use Rattle.leaves.specs.declared.error.Refusal.{Refusal}
 use Rattle.leaves.specs.declared.error.Refusal.the-variants.{BufferTooShort, StreamOverBudget}
-use Rattle.leaves.specs.Refusals.{checkNumber, firstOf, orElse}
+use Rattle.leaves.specs.Refusals.{checkNumber, firstOf, firstNumber, orElse}
 use Rattle.leaves.proofs.FirstOf.{first-or}
 use Rattle.format.specs.File.{maxFile, fileOf, boundOf, formatOf}
 use Rattle.format.specs.Input.{Input}
@@ -23,20 +23,26 @@ use Rattle.reference.specs.Compared.{sourceOf, optionsOf, outcome, answe
 use Rattle.reference.specs.PortCalls.{WritesAs, BoundsAs}
 use Rattle.reference.proofs.Theorem.{same-answers}
 
--- where 15 does not apply, the writing call's rows are those of the file
-without-15 : (i : Input) (room offset : ℕ) → bufferTooShort maxFile i room offset ≡ false → firstOf (writeRows maxFile i room offset) ≡ firstOf (fileRows i)
+-- where 15 is not the answer, the writing call's rows decide as those of the file
+without-15 : (i : Input) (room offset : ℕ) → (firstNumber (writeRows maxFile i room offset) ≡ 15 → ⊥) → firstOf (writeRows maxFile i room offset) ≡ firstOf (fileRows i)
 unfolding writeRows fileRows
-without-15 i room offset e =
-    let over : List (Bool × Refusal) = (streamOverBudget maxFile i, StreamOverBudget) ∷ [] in
-    first-or (planRows maxFile i) ((bufferTooShort maxFile i room offset, BufferTooShort) ∷ over)
-    ∙ ap (λ (b : Bool). orElse (firstOf (planRows maxFile i)) (cond b (Refused BufferTooShort) (firstOf over))) e
-    ∙ sym (first-or (planRows maxFile i) over)
+without-15 i room offset not-15 =
+    let all = first-or (planRows maxFile i) ((bufferTooShort maxFile i room offset, BufferTooShort) ∷ over) in
+    all ∙ go (firstOf (planRows maxFile i)) (bufferTooShort maxFile i room offset) (λ e. not-15 (ap checkNumber all ∙ e)) ∙ sym (first-or (planRows maxFile i) over)
+  where
+    over : List (Bool × Refusal)
+    over = (streamOverBudget maxFile i, StreamOverBudget) ∷ []
+
+    go : (c : Check) (b : Bool) → (checkNumber (orElse c (cond b (Refused BufferTooShort) (firstOf over))) ≡ 15 → ⊥) → orElse c (cond b (Refused BufferTooShort) (firstOf over)) ≡ orElse c (firstOf over)
+    go Passed true not-15 = absurd (not-15 refl)
+    go Passed false not-15 = refl
+    go (Refused why) b not-15 = refl
 
 module _ (i : Input) (ok : Typed i) (domain : Domain i) where
   -- `encode_into` writes what the original writes, with the agreed differences
-  pub writes-as : (offset : ℕ) (was later : List ℕ) (r : Encoded) → bufferTooShort maxFile i (length was) offset ≡ false → Written i offset was later r
+  pub writes-as : (offset : ℕ) (was later : List ℕ) (r : Encoded) → (firstNumber (writeRows maxFile i (length was) offset) ≡ 15 → ⊥) → Written i offset was later r
       → WritesAs (outcome (encodeSource (sourceOf i) (optionsOf i) >>= agreedFile i)) offset was later r
-  writes-as offset was later r room w = subst (λ o. WritesAs o offset was later r) (sym (same-answers i ok domain .file)) (go (firstOf (fileRows i)) (without-15 i (length was) offset room))
+  writes-as offset was later r not-15 w = subst (λ o. WritesAs o offset was later r) (sym (same-answers i ok domain .file)) (go (firstOf (fileRows i)) (without-15 i (length was) offset not-15))
     where
       go : (c : Check) → firstOf (writeRows maxFile i (length was) offset) ≡ c → WritesAs (answer c (fileOf maxFile i, formatOf maxFile i)) offset was later r
       go Passed e =

@@ -69,11 +69,11 @@ module _ (i : Input) (ok : Typed i) (domain : Domain i) where
   document-is : firstOf (planRows maxFile i) ≡ Passed → agreed i (originalFile maxFile i) (formatOf maxFile i) ≡ fileOf maxFile i
   document-is p = bridge i ok (plan-passed i p .0) maxFile
 
-  behind-follows : (out : List ℕ) → length out + boundOf maxFile i < 2 ^ 63
+  behind-follows : (out : List ℕ) → (firstOf (planRows maxFile i) ≡ Passed → length out + boundOf maxFile i < 2 ^ 63)
       → Follows (planRows maxFile i) (encodeBehind (sourceOf i) (optionsOf i) out >>= agreedBehind i out) (done (cond (streamOverBudget maxFile i) (refused rleOverLimit out) (wrote (formatOf maxFile i) (out ++ fileOf maxFile i))))
   behind-follows out room =
       follow.to (planRows maxFile i) _ _ _ (follow.on (planRows maxFile i) _ _ (agreedBehind i out) (follow.on (planRows maxFile i) _ _ (λ plan. writeInto plan out) plan-follows))
-      (λ p. ap (λ r. r >>= agreedBehind i out) (written-is p out room) ∙ go (streamOverBudget maxFile i) ∙ ap (λ x. done (cond (streamOverBudget maxFile i) (refused rleOverLimit out) (wrote (formatOf maxFile i) (out ++ x)))) (document-is p))
+      (λ p. ap (λ r. r >>= agreedBehind i out) (written-is p out (room p)) ∙ go (streamOverBudget maxFile i) ∙ ap (λ x. done (cond (streamOverBudget maxFile i) (refused rleOverLimit out) (wrote (formatOf maxFile i) (out ++ x)))) (document-is p))
     where
       go : (b : Bool) → agreedBehind i out (cond b (refused rleOverLimit out) (wrote (formatOf maxFile i) (out ++ originalFile maxFile i)))
           ≡ done (cond b (refused rleOverLimit out) (wrote (formatOf maxFile i) (out ++ agreed i (originalFile maxFile i) (formatOf maxFile i))))

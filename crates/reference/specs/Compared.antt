@@ -135,11 +135,12 @@ encodeBehind src options out = newPlan src options >>= λ plan. writeInto plan o
 unfoldable pub fileRows : Input → List (Bool × Refusal)
 fileRows i = planRows document.maxFile i ++ ((streamOverBudget document.maxFile i, StreamOverBudget) ∷ [])
 
--- Bound, file (with the agreed differences), format and refusal are the document's, and nothing panics. Where `out` has room for the bound in a Vec, the file stands behind what `out` held; the one Err that `write_into` returns leaves `out` as it was.
+-- Bound, file (with the agreed differences), format and refusal are the document's, and nothing panics. Where `out` has room for the bound of a plan in a Vec, the file stands
+-- behind what `out` held, and the one Err that `write_into` returns leaves `out` as it was; where there is no plan, no room is asked for.
 pub record SameAnswers (i : Input) : Type 0 where
   pub bound : outcome (sizeBound (sourceOf i) (optionsOf i)) ≡ answer (firstOf (planRows document.maxFile i)) (document.boundOf document.maxFile i)
   pub file : outcome (encodeSource (sourceOf i) (optionsOf i) >>= agreedFile i) ≡ answer (firstOf (fileRows i)) (document.fileOf document.maxFile i, document.formatOf document.maxFile i)
-  pub behind : (out : List ℕ) → length out + document.boundOf document.maxFile i < 2 ^ 63
+  pub behind : (out : List ℕ) → (firstOf (planRows document.maxFile i) ≡ check.Passed → length out + document.boundOf document.maxFile i < 2 ^ 63)
       → outcome (encodeBehind (sourceOf i) (optionsOf i) out >>= agreedBehind i out)
       ≡ answer (firstOf (planRows document.maxFile i))
       (cond (streamOverBudget document.maxFile i) (refused rleOverLimit out) (wrote (document.formatOf document.maxFile i) (out ++ document.fileOf document.maxFile i)))
