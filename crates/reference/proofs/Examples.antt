@@ -9,7 +9,7 @@ use Rattle.leaves.specs.Lists.{tab}
 use Rattle.format.proofs.ExampleInputs.{sevens}
 use Rattle.format.proofs.Examples.{m12File}
 use Rattle.format.proofs.FileExamples.{Written, files}
-use Rattle.reference.specs.Rust.{done, _>>=_, add, mul, sub, div, shl, shr, checkedAdd, checkedMul, negated, toLeBytes, at, store, range, within, copyFromSlice, assertEqual, reserve, for, forEach, loop}
+use Rattle.reference.specs.Rust.{done, _>>=_, add, mul, sub, div, shl, shr, checkedAdd, checkedMul, clamp, negated, toLeBytes, at, store, range, within, copyFromSlice, assertEqual, reserve, for, forEach, loop}
 use Rattle.reference.specs.Bitfields.{validateChannel, validate, maskShiftLen, quantise}
 use Rattle.reference.specs.Packing.{rowStride, newLayout, packMasks, zipChunks, exchanged, copied3, withAlpha, rowBgra32, rowBgr24, orAt, index4, index2, index1, packIndices, orField, sample, maskPixel, packLayout, packRow, newRows, sourceRow, packOne, packAll}
 use Rattle.reference.specs.Rle.{rleSlack, equal, runFrom, absTurn, absFrom, literal8, turn8, encodeRle8Row, nibble, nibbles, nibbleIf, pairTurn, literal4, turn4, encodeRle4Row, rleRow, probeFrom, rleInto}
@@ -26,7 +26,7 @@ unfolding encodeRle4Row turn4 literal4 runFrom absFrom absTurn equal nibble nibb
 row4 = refl
 
 m12 : (encodeSource (sourceOf (sevens 5 5 5)) (optionsOf (sevens 5 5 5)) >>= agreedFile (sevens 5 5 5)) ≡ done (m12File, Rle8)
-unfolding agreed encodeSource m12File add mul sub div shl shr checkedAdd checkedMul negated toLeBytes at store range within copyFromSlice assertEqual reserve for forEach loop validateChannel validate maskShiftLen quantise rowStride newLayout packMasks zipChunks exchanged copied3 withAlpha rowBgra32 rowBgr24 orAt index4 index2 index1 packIndices orField sample maskPixel packLayout packRow newRows sourceRow packOne packAll rleSlack equal runFrom absTurn absFrom literal8 turn8 encodeRle8Row nibble nibbles nibbleIf pairTurn literal4 turn4 encodeRle4Row rleRow probeFrom rleInto extendAll paletteEntryCount writeFileHeader writeDibHeaderV3 writeEntry writeColorTable writeDibHeaderV3Indexed writeDibHeaderV4Bitfields writeDibHeaderV4Calibrated writeDibHeaderV5WithProfile writeDibHeaderV5IndexedWithProfile writtenPaletteEntries entryBytes tableBytes clrUsed writeTable headerLen headLen budgetAndBound newSizes tailAndSlack sizesOf assemble plainIndexed plainHead plain planBitfields colourIndexed colourHead colourRows planFor newPlan signedStoredHeight writeMasks writeHeader writeHead patchRleHead writePixels writeProbed writeInto sourceOf optionsOf entriesIn tab
+unfolding agreed encodeSource m12File add mul sub div shl shr checkedAdd checkedMul clamp negated toLeBytes at store range within copyFromSlice assertEqual reserve for forEach loop validateChannel validate maskShiftLen quantise rowStride newLayout packMasks zipChunks exchanged copied3 withAlpha rowBgra32 rowBgr24 orAt index4 index2 index1 packIndices orField sample maskPixel packLayout packRow newRows sourceRow packOne packAll rleSlack equal runFrom absTurn absFrom literal8 turn8 encodeRle8Row nibble nibbles nibbleIf pairTurn literal4 turn4 encodeRle4Row rleRow probeFrom rleInto extendAll paletteEntryCount writeFileHeader writeDibHeaderV3 writeEntry writeColorTable writeDibHeaderV3Indexed writeDibHeaderV4Bitfields writeDibHeaderV4Calibrated writeDibHeaderV5WithProfile writeDibHeaderV5IndexedWithProfile writtenPaletteEntries entryBytes tableBytes clrUsed writeTable headerLen headLen budgetAndBound newSizes tailAndSlack sizesOf assemble plainIndexed plainHead plain planBitfields colourIndexed colourHead colourRows planFor newPlan signedStoredHeight writeMasks writeHeader writeHead patchRleHead writePixels writeProbed writeInto sourceOf optionsOf entriesIn tab
 m12 = refl
 
 -- what the transcription makes of a call, with the agreed differences
@@ -34,5 +34,5 @@ unfoldable found : Written → Outcome (List ℕ × EncodedBmpFormat) × Outcome
 found e = (outcome (encodeSource (sourceOf (e .input)) (optionsOf (e .input)) >>= agreedFile (e .input)), outcome (sizeBound (sourceOf (e .input)) (optionsOf (e .input))))
 
 files-hold : map found files ≡ map (λ (e : Written). (gives (e .bytes, e .format), gives (e .bound))) files
-unfolding found agreed encodeSource trailingZeros leadingZeros onesIn add mul sub div shl shr checkedAdd checkedMul negated toLeBytes at store range within copyFromSlice assertEqual reserve for forEach loop validateChannel validate maskShiftLen quantise rowStride newLayout packMasks zipChunks exchanged copied3 withAlpha rowBgra32 rowBgr24 orAt index4 index2 index1 packIndices orField sample maskPixel packLayout packRow newRows sourceRow packOne packAll rleSlack equal runFrom absTurn absFrom literal8 turn8 encodeRle8Row nibble nibbles nibbleIf pairTurn literal4 turn4 encodeRle4Row rleRow probeFrom rleInto extendAll paletteEntryCount writeFileHeader writeDibHeaderV3 writeEntry writeColorTable writeDibHeaderV3Indexed writeDibHeaderV4Bitfields writeDibHeaderV4Calibrated writeDibHeaderV5WithProfile writeDibHeaderV5IndexedWithProfile writtenPaletteEntries entryBytes tableBytes clrUsed writeTable headerLen headLen budgetAndBound newSizes tailAndSlack sizesOf assemble plainIndexed plainHead plain planBitfields colourIndexed colourHead colourRows planFor newPlan signedStoredHeight writeMasks writeHeader writeHead patchRleHead writePixels writeProbed writeInto sourceOf optionsOf entriesIn tab
+unfolding found agreed encodeSource trailingZeros leadingZeros onesIn add mul sub div shl shr checkedAdd checkedMul clamp negated toLeBytes at store range within copyFromSlice assertEqual reserve for forEach loop validateChannel validate maskShiftLen quantise rowStride newLayout packMasks zipChunks exchanged copied3 withAlpha rowBgra32 rowBgr24 orAt index4 index2 index1 packIndices orField sample maskPixel packLayout packRow newRows sourceRow packOne packAll rleSlack equal runFrom absTurn absFrom literal8 turn8 encodeRle8Row nibble nibbles nibbleIf pairTurn literal4 turn4 encodeRle4Row rleRow probeFrom rleInto extendAll paletteEntryCount writeFileHeader writeDibHeaderV3 writeEntry writeColorTable writeDibHeaderV3Indexed writeDibHeaderV4Bitfields writeDibHeaderV4Calibrated writeDibHeaderV5WithProfile writeDibHeaderV5IndexedWithProfile writtenPaletteEntries entryBytes tableBytes clrUsed writeTable headerLen headLen budgetAndBound newSizes tailAndSlack sizesOf assemble plainIndexed plainHead plain planBitfields colourIndexed colourHead colourRows planFor newPlan signedStoredHeight writeMasks writeHeader writeHead patchRleHead writePixels writeProbed writeInto sourceOf optionsOf entriesIn tab
 files-hold = refl

@@ -5,7 +5,7 @@ use mathlib.Core.List.{List, [], _∷_, _++_}
 use mathlib.Core.Logic.{_⊎_, inl, inr}
 use Prim.Native.Nat.{ℕ, zero, _+_, _-_, _*_, _/_, _%_, _^_, _≤_, _<_, min, max}
 use native.Mathlib.Omega.{arith}
-use borrow.Author.Tests.{ltb-true, ltb-false, eqb-true, not-false}
+use borrow.Author.Tests.{ltb-true, ltb-false, le-leb, eqb-true, not-false}
 use lib.Dec.{eqb, ltb}
 use lib.ListN.{length, getD, take, drop, replicate}
 use Rattle.leaves.specs.declared.image.BmpPixelFormat.{BmpPixelFormat}
@@ -35,7 +35,7 @@ use Rattle.format.proofs.FileSizes.{pack-ok}
 use Rattle.format.proofs.HeadFields.{depth-le}
 use Rattle.format.proofs.PlainBody.{pack-bytes}
 use Rattle.format.proofs.Passing.{first-parts, row-parts}
-use Rattle.reference.specs.Rust.{zeroDimension, requiresPalette, mutuallyExclusive, bitfieldsSource, Run, done, fails, panics, _>>=_, _>>_, some, none, failIf, okOr, isSome, add}
+use Rattle.reference.specs.Rust.{zeroDimension, requiresPalette, mutuallyExclusive, bitfieldsSource, Run, done, fails, panics, _>>=_, _>>_, some, none, failIf, okOr, isSome, add, clamp}
 use Rattle.reference.specs.Types.{BmpBitfields, Palette, EncodeSource, EncodeOptions, bitsPerPixel, isIndexed, blueFirst, plainToken}
 use Rattle.reference.specs.Bitfields.{validate}
 use Rattle.reference.specs.Packing.{RowPack, packBits, sourceBytes, newLayout, packMasks, Rows, newRows}
@@ -76,8 +76,10 @@ tables source.Indexed1 = record { bits = refl; indexed = refl; token = refl; few
 
 -- ---- entries
 
-clamp-is : (n full : ℕ) → 1 ≤ full → cond (ltb n 1) 1 (cond (ltb full n) full n) ≡ min (max 1 n) full
-clamp-is n full h = go (ltb n 1) refl (ltb full n) refl
+-- the assertion in clamp holds: every table has room for an entry
+clamp-is : (n full : ℕ) → 1 ≤ full → clamp n 1 full ≡ done (min (max 1 n) full)
+unfolding clamp
+clamp-is n full h = rw (le-leb 1 full h) (ap done (go (ltb n 1) refl (ltb full n) refl))
   where
     go : (a : Bool) → ltb n 1 ≡ a → (b : Bool) → ltb full n ≡ b → cond a 1 (cond b full n) ≡ min (max 1 n) full
     go true p b q = omega (arith, ltb-true n 1 p)
@@ -86,27 +88,32 @@ clamp-is n full h = go (ltb n 1) refl (ltb full n) refl
 
 -- written_palette_entries is the document's count
 entries-is : (i : Input) (bpp : ℕ) → formats.isIndexed (i .source .format) ≡ true → formats.bitsPerPixel (i .source .format) ≡ bpp → 1 ≤ counts.paletteEntryCount bpp
-    → writtenPaletteEntries bpp (paletteIn i) (optionsOf i) ≡ entriesOf i
+    → writtenPaletteEntries bpp (paletteIn i) (optionsOf i) ≡ done (entriesOf i)
 unfolding writtenPaletteEntries tableEntries counts.writtenPaletteEntries entriesIn optionsOf
 entries-is i bpp indexed bits full =
     let n : length (entriesIn (i .palette)) ≡ length (i .palette) / 4 = length-tab (λ k. take 4 (drop (k * 4) (i .palette))) (length (i .palette) / 4) in
-    rw (indexed, bits, count-is bpp, n, clamp-is (length (i .palette) / 4) (counts.paletteEntryCount bpp) full)
+    rw (indexed, bits, count-is bpp, n, clamp-is (length (i .palette) / 4) (counts.paletteEntryCount bpp) full) (go (i .options .«minimal_palette»))
+  where
+    go : (b : Bool) → cond b (done (min (max 1 (length (i .palette) / 4)) (counts.paletteEntryCount bpp))) (done (counts.paletteEntryCount bpp))
+        ≡ done (cond b (min (max 1 (length (i .palette) / 4)) (counts.paletteEntryCount bpp)) (counts.paletteEntryCount bpp))
+    go true = refl
+    go false = refl
 
 -- ---- the heads and packs of each format
 
 module _ (i : Input) (palette : formats.isIndexed (i .source .format) ≡ true → i .source .«has_palette» ≡ true) where
   -- the indexed arms: what is made of the depth, the palette and its entries
   indexed-arm : {A : Type 0} (arm : ℕ → Palette → ℕ → A) (f : BmpPixelFormat) → i .source .format ≡ f → formats.isIndexed f ≡ true → 1 ≤ counts.paletteEntryCount (bitsPerPixel f)
-      → (okOr (sourceOf i .palette) requiresPalette >>= λ p. done (arm (bitsPerPixel (i .source .format)) p (writtenPaletteEntries (bitsPerPixel (i .source .format)) p (optionsOf i))))
+      → (okOr (sourceOf i .palette) requiresPalette >>= λ p. writtenPaletteEntries (bitsPerPixel (i .source .format)) p (optionsOf i) >>= λ n. done (arm (bitsPerPixel (i .source .format)) p n))
       ≡ done (arm (bitsPerPixel f) (paletteIn i) (entriesOf i))
   unfolding sourceOf
   indexed-arm {A} arm f e indexed full =
       let d : bitsPerPixel (i .source .format) ≡ bitsPerPixel f = ap bitsPerPixel e in
       let b : formats.isIndexed (i .source .format) ≡ true = ap formats.isIndexed e ∙ indexed in
-      let all : ℕ → Palette → Run A = λ n p. done (arm n p (writtenPaletteEntries n p (optionsOf i))) in
+      let all : ℕ → Palette → Run A = λ d p. writtenPaletteEntries d p (optionsOf i) >>= λ n. done (arm d p n) in
       ap (λ t. okOr (given t (paletteIn i)) requiresPalette >>= all (bitsPerPixel (i .source .format))) (palette b)
       ∙ ap (λ n. all n (paletteIn i)) d
-      ∙ ap (λ n. done (arm (bitsPerPixel f) (paletteIn i) n)) (entries-is i (bitsPerPixel f) b (sym (tables (i .source .format) .bits) ∙ d) full)
+      ∙ ap (λ r. r >>= λ n. done (arm (bitsPerPixel f) (paletteIn i) n)) (entries-is i (bitsPerPixel f) b (sym (tables (i .source .format) .bits) ∙ d) full)
 
   -- head and pack of a plain file, and pack and header of a calibrated or profiled one
   abbrev Chooses : BmpPixelFormat → Type 0

@@ -9,7 +9,7 @@ use Rattle.leaves.specs.declared.image.BmpPixelFormat.the-variants as source
 use Rattle.leaves.specs.declared.encoder.EncodedBmpFormat.{EncodedBmpFormat}
 use Rattle.leaves.specs.declared.encoder.EncodedBmpFormat.the-variants as written
 use Rattle.leaves.specs.declared.options.CalibratedRgb.{CalibratedRgb}
-use Rattle.reference.specs.Rust.{Error, zeroDimension, requiresPalette, mutuallyExclusive, pixelArrayOverflows, fileOverflows, overLimit, notAddressable, rleOverLimit, Run, done, fails, _>>=_, _>>_, Option, some, none, failIf, okOr, isSome, u32, u64, usize, add, sub, mul, cast, checkedAdd, checkedMul, saturatingSub, negated, toLeBytes, range, within, copyFromSlice, assertEqual, extend, reserve, truncate, resize}
+use Rattle.reference.specs.Rust.{Error, zeroDimension, requiresPalette, mutuallyExclusive, pixelArrayOverflows, fileOverflows, overLimit, notAddressable, rleOverLimit, Run, done, fails, _>>=_, _>>_, Option, some, none, failIf, okOr, isSome, u32, u64, usize, add, sub, mul, cast, checkedAdd, checkedMul, saturatingSub, clamp, negated, toLeBytes, range, within, copyFromSlice, assertEqual, extend, reserve, truncate, resize}
 use Rattle.reference.specs.Types.{BmpBitfields, Palette, EncodeSource, EncodeOptions, bytesPerPixel, bitsPerPixel, isIndexed, blueFirst, plainToken}
 use Rattle.reference.specs.Bitfields.{hasAlpha, masksCompression, validate}
 use Rattle.reference.specs.Packing.{RowPack, Bgra32, Bgr24, Words16, Indexed, packMasks, Rows, newRows, packAll}
@@ -37,12 +37,11 @@ pub data Head : Type 0 where
   -- header, cs_type, intent, blob
   V5Profile : ColourHeader → ℕ → ℕ → List ℕ → Head
 
--- fn written_palette_entries(bpp: u16, palette: &Palette, options: &EncodeOptions) -> usize; n.clamp(1, full) is n held between 1 and full
-unfoldable pub writtenPaletteEntries : ℕ → Palette → EncodeOptions → ℕ
+-- fn written_palette_entries(bpp: u16, palette: &Palette, options: &EncodeOptions) -> usize
+unfoldable pub writtenPaletteEntries : ℕ → Palette → EncodeOptions → Run ℕ
 writtenPaletteEntries bpp palette options =
     let full = paletteEntryCount bpp in
-    let n = length (palette .entries) in
-    cond (options .«minimal_palette») (cond (ltb n 1) 1 (cond (ltb full n) full n)) full
+    cond (options .«minimal_palette») (clamp (length (palette .entries)) 1 full) (done full)
 
 -- (entries * 4) as u32
 unfoldable pub entryBytes : ℕ → Run ℕ
@@ -179,7 +178,8 @@ unfoldable pub plainIndexed : EncodeSource → EncodeOptions → Run (Head × Ro
 plainIndexed src options = do
   let bpp = bitsPerPixel (src .format)
   palette ← okOr (src .palette) requiresPalette
-  done (V3Indexed bpp palette (writtenPaletteEntries bpp palette options) (rleFor (src .format) options), Indexed bpp)
+  entries ← writtenPaletteEntries bpp palette options
+  done (V3Indexed bpp palette entries (rleFor (src .format) options), Indexed bpp)
 
 -- (head, pack) of Plan::plain
 unfoldable pub plainHead : BmpPixelFormat → EncodeSource → EncodeOptions → Run (Head × RowPack)
@@ -215,7 +215,7 @@ unfoldable pub colourIndexed : EncodeSource → EncodeOptions → Run (RowPack �
 colourIndexed src options = do
   let bpp = bitsPerPixel (src .format)
   palette ← okOr (src .palette) requiresPalette
-  let entries = writtenPaletteEntries bpp palette options
+  entries ← writtenPaletteEntries bpp palette options
   done (Indexed bpp, record { bpp = bpp; compression = 0; masks = replicate 4 0; table = some (palette, entries) })
 
 -- (pack, bpp, compression, masks, table) of Plan::colour_rows

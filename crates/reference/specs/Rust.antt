@@ -104,6 +104,10 @@ saturatingSub a b = a - b
 abbrev pub cast : ℕ → ℕ → ℕ
 cast w a = a % 2 ^ w
 
+-- a.clamp(least, most): Ord::clamp asserts least <= most
+unfoldable pub clamp : ℕ → ℕ → ℕ → Run ℕ
+clamp a least most = cond (leb least most) (done (cond (ltb a least) least (cond (ltb most a) most a))) panics
+
 -- an i32 is its 32 bits: -a of one that is not negative, a.unsigned_abs()
 unfoldable pub negated : ℕ → Run ℕ
 negated a = cond (eqb a 0x80000000) panics (done ((2 ^ 32 - a) % 2 ^ 32))
