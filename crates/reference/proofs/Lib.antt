@@ -21,4 +21,5 @@ pub mod WriteLaws
 pub mod FileLaws
 pub mod Bridge
 pub mod Theorem
+pub mod Witness
 pub mod PortCalls
