@@ -9,6 +9,7 @@ use Rattle.leaves.specs.Refusals.{numberOf, firstOf}
 use Rattle.leaves.proofs.FirstOf.{first-pass, first-stop}
 use Rattle.reference.specs.Rust.{Error, Run, done, fails, _>>=_, _>>_, failIf}
 use Rattle.reference.specs.Compared.{errorNumber, refuses, outcome, answer}
+use Rattle.reference.proofs.ErrorKinds.{kind-is}
 
 pub record Fails {A : Type 0} (m : Run A) (why : Refusal) : Type 0 where
   pub error : Error
@@ -114,4 +115,4 @@ answered rows m a h = go (firstOf rows) refl
   where
     go : (c : Check) → firstOf rows ≡ c → outcome m ≡ answer c a
     go Passed e = ap outcome (h .passed e)
-    go (Refused w) e = let r = h .refused w e in ap outcome (r .is) ∙ ap refuses (r .number)
+    go (Refused w) e = let r = h .refused w e in ap outcome (r .is) ∙ (λ z. refuses (r .number z) (kind-is (r .error) w (r .number) z))

@@ -1,5 +1,6 @@
 pub mod Examples
 pub mod RunLaws
+pub mod ErrorKinds
 pub mod Follows
 pub mod Slices
 pub mod Original

@@ -13,8 +13,8 @@ use Rattle.format.specs.File as document
 use Rattle.format.specs.Input.{Input}
 use Rattle.format.specs.Refusals.{planRows, streamOverBudget}
 use Rattle.leaves.specs.declared.error.Refusal.{Refusal}
-use Rattle.leaves.specs.declared.error.Refusal.the-variants.{StreamOverBudget}
-use Rattle.reference.specs.Rust.{Error, zeroDimension, requiresPalette, mutuallyExclusive, bitfieldsBpp, maskExceeds, maskNotContiguous, maskOverlaps, noColourMask, bitfieldsSource, planeTruncated, strideBelowRow, pixelArrayOverflows, fileOverflows, overLimit, notAddressable, rleOverLimit, Run, done, fails, panics, _>>=_, Option, some, none}
+use Rattle.leaves.specs.declared.error.Refusal.the-variants.{ZeroDimension, DimensionTooLarge, PaletteMissing, PaletteNotQuads, SeveralModes, MaskDepth, MaskAboveDepth, MaskNotOneRun, MaskOverlap, NoColourMask, MaskSource, PlaneTooShort, StrideTooShort, FileTooLarge, BufferTooShort, StreamOverBudget}
+use Rattle.reference.specs.Rust.{Error, zeroDimension, requiresPalette, mutuallyExclusive, bitfieldsBpp, maskExceeds, maskNotContiguous, maskOverlaps, noColourMask, bitfieldsSource, planeTruncated, strideBelowRow, pixelArrayOverflows, fileOverflows, overLimit, notAddressable, rleOverLimit, Kind, InvalidData, Unsupported, kindOf, Run, done, fails, panics, _>>=_, Option, some, none}
 use Rattle.reference.specs.Types.{BmpBitfields, EncodeSource, EncodeOptions}
 use Rattle.reference.specs.Plan.{newPlan, Appended, wrote, refused, writeInto, encodeSource}
 
@@ -75,20 +75,40 @@ errorNumber overLimit = 14
 errorNumber notAddressable = 0
 errorNumber rleOverLimit = 16
 
+-- the table's column "Rust"; none where it says "added"
+abbrev pub rustKind : Refusal → Option Kind
+rustKind ZeroDimension = some InvalidData
+rustKind DimensionTooLarge = none
+rustKind PaletteMissing = some InvalidData
+rustKind PaletteNotQuads = none
+rustKind SeveralModes = some Unsupported
+rustKind MaskDepth = some InvalidData
+rustKind MaskAboveDepth = some InvalidData
+rustKind MaskNotOneRun = some InvalidData
+rustKind MaskOverlap = some InvalidData
+rustKind NoColourMask = some InvalidData
+rustKind MaskSource = some Unsupported
+rustKind PlaneTooShort = some InvalidData
+rustKind StrideTooShort = some InvalidData
+rustKind FileTooLarge = some Unsupported
+rustKind BufferTooShort = none
+rustKind StreamOverBudget = some Unsupported
+
+-- a refusal has its number and its kind
 pub data Outcome (A : Type 0) : Type 0 where
   gives : A → Outcome A
-  refuses : ℕ → Outcome A
+  refuses : ℕ → Option Kind → Outcome A
   panicked : Outcome A
 
 abbrev pub outcome : {A : Type 0} → Run A → Outcome A
 outcome (done a) = gives a
-outcome (fails e) = refuses (errorNumber e)
+outcome (fails e) = refuses (errorNumber e) (some (kindOf e))
 outcome panics = panicked
 
 -- the document's answer: the first row of its table that applies, or else this
 abbrev pub answer : {A : Type 0} → Check → A → Outcome A
 answer check.Passed a = gives a
-answer (check.Refused why) a = refuses (numberOf why)
+answer (check.Refused why) a = refuses (numberOf why) (rustKind why)
 
 -- ---- the agreed differences
 
@@ -135,7 +155,7 @@ encodeBehind src options out = newPlan src options >>= λ plan. writeInto plan o
 unfoldable pub fileRows : Input → List (Bool × Refusal)
 fileRows i = planRows document.maxFile i ++ ((streamOverBudget document.maxFile i, StreamOverBudget) ∷ [])
 
--- Bound, file (with the agreed differences), format and refusal are the document's, and nothing panics. Where `out` has room for the bound of a plan in a Vec, the file stands
+-- Bound, file (with the agreed differences), format and refusal, with its kind, are the document's, and nothing panics. Where `out` has room for the bound of a plan in a Vec, the file stands
 -- behind what `out` held, and the one Err that `write_into` returns leaves `out` as it was; where there is no plan, no room is asked for.
 pub record SameAnswers (i : Input) : Type 0 where
   pub bound : outcome (sizeBound (sourceOf i) (optionsOf i)) ≡ answer (firstOf (planRows document.maxFile i)) (document.boundOf document.maxFile i)

@@ -14,11 +14,11 @@ use Rattle.reference.specs.Compared.{Outcome, gives, refuses, panicked}
 abbrev pub WritesAs : Outcome (List ℕ × EncodedBmpFormat) → ℕ → List ℕ → List ℕ → Encoded → Type 0
 WritesAs (gives (file, format)) offset was later answer =
     (encodedNumber answer ≡ 0) × (encodedFormat answer ≡ format ∷ []) × (encodedBytes answer ≡ length file) × (later ≡ put was offset file)
-WritesAs (refuses n) offset was later answer = (encodedNumber answer ≡ n) × (later ≡ was)
+WritesAs (refuses n kind) offset was later answer = (encodedNumber answer ≡ n) × (later ≡ was)
 WritesAs panicked offset was later answer = ⊥
 
 -- the size query answers as the original
 abbrev pub BoundsAs : Outcome ℕ → SizeBound → Type 0
 BoundsAs (gives bytes) answer = (boundNumber answer ≡ 0) × (boundBytes answer ≡ bytes)
-BoundsAs (refuses n) answer = boundNumber answer ≡ n
+BoundsAs (refuses n kind) answer = boundNumber answer ≡ n
 BoundsAs panicked answer = ⊥

@@ -12,6 +12,29 @@ pub data Error : Type 0 where
   planeTruncated strideBelowRow : Error
   pixelArrayOverflows fileOverflows overLimit notAddressable rleOverLimit : Error
 
+-- the variants of `BmpError` that encoder.rs makes here
+pub data Kind : Type 0 where
+  InvalidData Unsupported : Kind
+
+-- the constructor at each Err's site, `Error::invalid(..)` or `Error::unsupported(..)`
+abbrev pub kindOf : Error → Kind
+kindOf zeroDimension = InvalidData
+kindOf requiresPalette = InvalidData
+kindOf mutuallyExclusive = Unsupported
+kindOf bitfieldsBpp = InvalidData
+kindOf maskExceeds = InvalidData
+kindOf maskNotContiguous = InvalidData
+kindOf maskOverlaps = InvalidData
+kindOf noColourMask = InvalidData
+kindOf bitfieldsSource = Unsupported
+kindOf planeTruncated = InvalidData
+kindOf strideBelowRow = InvalidData
+kindOf pixelArrayOverflows = Unsupported
+kindOf fileOverflows = Unsupported
+kindOf overLimit = Unsupported
+kindOf notAddressable = Unsupported
+kindOf rleOverLimit = Unsupported
+
 -- what a run comes to: a value, an Err, or a panic; a loop whose count is used up counts as a panic too
 pub data Run (A : Type 0) : Type 0 where
   done : A → Run A
