@@ -39,11 +39,13 @@ readings =
     -- document 01's sentences on rows: two rows; the padding between them, and none behind the top row
     ∷ rows 8 2 1 (0x02 ∷ 0x07 ∷ 0x00 ∷ 0x00 ∷ 0x02 ∷ 0x09 ∷ []) (filled (7 ∷ 7 ∷ 9 ∷ 9 ∷ []) 6)
     ∷ rows 8 3 1 (0x00 ∷ 0x03 ∷ 0x01 ∷ 0x02 ∷ 0x03 ∷ 0x00 ∷ 0x00 ∷ 0x00 ∷ 0x00 ∷ 0x03 ∷ 0x04 ∷ 0x05 ∷ 0x06 ∷ []) (filled (1 ∷ 2 ∷ 3 ∷ 4 ∷ 5 ∷ 6 ∷ []) 14)
-    -- 00 00 in a row that is not full, 00 01 between two rows, a pair behind a full row, a pair over a row's end, and bytes that are missing
+    -- 00 00 in a row that is not full, 00 01 between two rows, a pair behind a full row, a pair and a block over a row's end, and bytes that are missing
     ∷ rows 8 2 1 (0x01 ∷ 0x07 ∷ 0x00 ∷ 0x00 ∷ 0x02 ∷ 0x09 ∷ []) (refused badCode)
     ∷ rows 8 2 1 (0x02 ∷ 0x07 ∷ 0x00 ∷ 0x01 ∷ 0x02 ∷ 0x09 ∷ []) (refused badCode)
     ∷ rows 8 2 1 (0x02 ∷ 0x07 ∷ 0x02 ∷ 0x09 ∷ []) (refused pastRowEnd)
     ∷ rows 8 2 1 (0x03 ∷ 0x07 ∷ 0x00 ∷ 0x00 ∷ 0x02 ∷ 0x09 ∷ []) (refused pastRowEnd)
+    ∷ rows 8 2 0 (0x00 ∷ 0x03 ∷ 0x45 ∷ 0x56 ∷ 0x67 ∷ 0x00 ∷ []) (refused pastRowEnd)
+    ∷ rows 8 2 0 (0x01 ∷ 0x07 ∷ []) (refused short)
     ∷ rows 8 2 1 (0x02 ∷ 0x07 ∷ 0x00 ∷ []) (refused short)
     ∷ rows 8 3 0 (0x00 ∷ 0x03 ∷ 0x01 ∷ 0x02 ∷ []) (refused short)
     ∷ []
