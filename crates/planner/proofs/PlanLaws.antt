@@ -16,7 +16,7 @@ use Rattle.leaves.specs.declared.error.Refusal.{Refusal}
 use Rattle.leaves.specs.declared.error.Refusal.the-variants.{FileTooLarge}
 use Rattle.leaves.specs.Refusals.{checkNumber, firstOf, orElse}
 use Rattle.leaves.specs.Sizes.{rowStride}
-use Rattle.leaves.proofs.FirstOf.{first-or, first-pass, first-stop}
+use Rattle.leaves.proofs.FirstOf.{first-or, first-pass, first-stop, check-determined}
 use Rattle.format.specs.declared.layout.Layout.{Layout}
 use Rattle.format.specs.File.{depthIn, rawBytes, headBytes, tailOf, rlePlanned, maxFile, plainSize, budget, boundOf}
 use Rattle.format.specs.Input.{Input}
@@ -29,8 +29,8 @@ use Rattle.planner.specs.declared.plan.Plan.{Plan}
 use Rattle.planner.specs.declared.plan.Plan.the-variants as plan
 use Rattle.planner.specs.declared.plan.SizeBound.the-variants as sized
 use Rattle.planner.specs.declared.plan.Sizes.{Sizes}
-use Rattle.planner.specs.Answers.{Sized, boundFor}
-use Rattle.planner.specs.Plans.{sizesBy, planBy, sizesPlan, planOf, layoutIn, sizesOf, Planned}
+use Rattle.planner.specs.Answers.{Sized, boundFor, planNumber, planBound, planLayout, planSizes}
+use Rattle.planner.specs.Plans.{sizesBy, planBy, sizesPlan, lengthRows, passing, orZero, PlannedBy, layoutIn, sizesOf, Planned}
 use Rattle.planner.proofs.LayoutLaws.{coding-planned}
 
 -- ---- sizes as numbers
@@ -99,22 +99,91 @@ pub stream-planned : (s : EncodeSource) (o : EncodeOptions) (n : ℕ) (l : Layou
 unfolding layoutOf
 stream-planned s o n l e = ap (λ (z : Layout). isStream (z .coding)) e ∙ coding-planned s o
 
+-- ---- number, layout and sizes determine a plan
+
+-- layout and sizes, or the cause
+unfoldable planOf : ℕ → EncodeSource → EncodeOptions → ℕ → ℕ → ℕ → Plan
+planOf limit s o planeBytes paletteBytes profileBytes =
+    planBy (firstOf (lengthRows limit s o planeBytes paletteBytes profileBytes)) (layoutOf s o paletteBytes) (sizesBy limit (headLen s o paletteBytes) (rawLen s o) profileBytes (wantsRle s o) (s .width))
+
+planCheck : Plan → Check
+planCheck (plan.Ready l s) = check.Passed
+planCheck (plan.Refused why) = check.Refused why
+
+plan-number : (p : Plan) → planNumber p ≡ checkNumber (planCheck p)
+unfolding planCheck
+plan-number (plan.Ready l s) = refl
+plan-number (plan.Refused why) = refl
+
+-- the plan of a check, layouts and sizes
+rebuilt : Check → List Layout → List Sizes → Plan → Plan
+rebuilt check.Passed [] sizes p = p
+rebuilt check.Passed (l ∷ ls) [] p = p
+rebuilt check.Passed (l ∷ ls) (s ∷ ss) p = plan.Ready l s
+rebuilt (check.Refused why) layouts sizes p = plan.Refused why
+
+rebuilds : (p q : Plan) → rebuilt (planCheck p) (planLayout p) (planSizes p) q ≡ p
+unfolding rebuilt planCheck
+rebuilds (plan.Ready l s) q = refl
+rebuilds (plan.Refused why) q = refl
+
+-- equal in all three, two plans are one
+pub plan-determined : (p q : Plan) → planNumber p ≡ planNumber q → planLayout p ≡ planLayout q → planSizes p ≡ planSizes q → p ≡ q
+plan-determined p q number layout sizes =
+    let same = check-determined (planCheck p) (planCheck q) (sym (plan-number p) ∙ number ∙ plan-number q) in
+    sym (rebuilds p p) ∙ (λ z. rebuilt (same z) (layout z) (sizes z) p) ∙ rebuilds q p
+
+-- what the plan of a check says
+record Says (c : Check) (l : Layout) (s : Sizes) (p : Plan) : Type 0 where
+  number : planNumber p ≡ checkNumber c
+  bound : planBound p ≡ orZero c (s .bound)
+  layout : planLayout p ≡ passing c l
+  sizes : planSizes p ≡ passing c s
+
+says : (c : Check) (l : Layout) (s : Sizes) → Says c l s (planBy c l s)
+says check.Passed l s = record { number = refl; bound = refl; layout = refl; sizes = refl }
+says (check.Refused why) l s = record { number = refl; bound = refl; layout = refl; sizes = refl }
+
+module _ (limit : ℕ) (s : EncodeSource) (o : EncodeOptions) (a b t : ℕ) where
+  rows : List (Bool × Refusal)
+  rows = lengthRows limit s o a b t
+
+  sizes : Sizes
+  sizes = sizesBy limit (headLen s o b) (rawLen s o) t (wantsRle s o) (s .width)
+
+  -- the promise of the plan is an equation
+  planned-as : (p : Plan) → p ≡ planOf limit s o a b t → PlannedBy limit s o a b t p
+  unfolding planOf rows sizes
+  planned-as p e =
+      let k = says (firstOf rows) (layoutOf s o b) sizes in
+      record { number = ap planNumber e ∙ k .number; bound = ap planBound e ∙ k .bound; layout = ap planLayout e ∙ k .layout; sizes = ap planSizes e ∙ k .sizes }
+
+  planned-is : (p : Plan) → PlannedBy limit s o a b t p → p ≡ planOf limit s o a b t
+  unfolding planOf rows sizes
+  planned-is p h =
+      let k = says (firstOf rows) (layoutOf s o b) sizes in
+      plan-determined p (planBy (firstOf rows) (layoutOf s o b) sizes) (h .number ∙ sym (k .number)) (h .layout ∙ sym (k .layout)) (h .sizes ∙ sym (k .sizes))
+
+-- ---- the plan by the checks
+
 -- a call that is refused has a refused plan
 pub plan-stops : (limit : ℕ) (s : EncodeSource) (o : EncodeOptions) (a b t : ℕ) (c : Check) (why : Refusal) → c ≡ firstOf (checkRows s o a b) → c ≡ check.Refused why
-    → plan.Refused why ≡ planOf limit s o a b t
-unfolding planOf
+    → PlannedBy limit s o a b t (plan.Refused why)
+unfolding planOf lengthRows
 plan-stops limit s o a b t c why e q =
-    sym (ap (λ (k : Check). planBy k (layoutOf s o b) (sizesBy limit (headLen s o b) (rawLen s o) t (wantsRle s o) (s .width))) (first-stop (checkRows s o a b) _ why (sym e ∙ q)))
+    planned-as limit s o a b t (plan.Refused why)
+    (sym (ap (λ (k : Check). planBy k (layoutOf s o b) (sizesBy limit (headLen s o b) (rawLen s o) t (wantsRle s o) (s .width))) (first-stop (checkRows s o a b) _ why (sym e ∙ q))))
 
 -- of one that passes, 14 decides
 pub plan-sizes : (limit : ℕ) (s : EncodeSource) (o : EncodeOptions) (a b t head raw : ℕ) (l : Layout) (r : Plan) → firstOf (checkRows s o a b) ≡ check.Passed
-    → l ≡ layoutOf s o b → head ≡ headLen s o b → raw ≡ rawLen s o → r ≡ sizesPlan limit l head raw t (s .width) → r ≡ planOf limit s o a b t
-unfolding planOf sizesPlan
+    → l ≡ layoutOf s o b → head ≡ headLen s o b → raw ≡ rawLen s o → r ≡ sizesPlan limit l head raw t (s .width) → PlannedBy limit s o a b t r
+unfolding planOf lengthRows sizesPlan
 plan-sizes limit s o a b t head raw l r passed el eh er e =
     let rle = stream-planned s o b l el in
-    e
+    planned-as limit s o a b t r
+    (e
     ∙ (λ z. planBy (firstOf ((not (rle z) && ltb limit (eh z + er z + t), FileTooLarge) ∷ [])) (el z) (sizesBy limit (eh z) (er z) t (rle z) (s .width)))
-    ∙ sym (ap (λ (k : Check). planBy k (layoutOf s o b) (sizesBy limit (headLen s o b) (rawLen s o) t (wantsRle s o) (s .width))) (first-pass (checkRows s o a b) _ passed))
+    ∙ sym (ap (λ (k : Check). planBy k (layoutOf s o b) (sizesBy limit (headLen s o b) (rawLen s o) t (wantsRle s o) (s .width))) (first-pass (checkRows s o a b) _ passed)))
 
 -- ---- what a plan says
 
@@ -136,12 +205,12 @@ refusalIn (plan.Refused why) other = why
 
 -- the plan of a call, by the table
 call-plan : (i : Input) → planOf maxFile (i .source) (i .options) (length (i .plane)) (length (i .palette)) (length (tailOf i)) ≡ planBy (firstOf (planRows maxFile i)) (layoutIn i) (sizesOf i)
-unfolding planOf planRows fileTooLarge plainSize
+unfolding planOf lengthRows planRows fileTooLarge plainSize
 call-plan i = refl
 
-module _ (i : Input) (p : Plan) (tail : ℕ) (et : tail ≡ length (tailOf i)) (e : p ≡ planOf maxFile (i .source) (i .options) (length (i .plane)) (length (i .palette)) tail) where
+module _ (i : Input) (p : Plan) (tail : ℕ) (et : tail ≡ length (tailOf i)) (e : PlannedBy maxFile (i .source) (i .options) (length (i .plane)) (length (i .palette)) tail p) where
   by-table : p ≡ planBy (firstOf (planRows maxFile i)) (layoutIn i) (sizesOf i)
-  by-table = e ∙ ap (planOf maxFile (i .source) (i .options) (length (i .plane)) (length (i .palette))) et ∙ call-plan i
+  by-table = planned-is maxFile (i .source) (i .options) (length (i .plane)) (length (i .palette)) tail p e ∙ ap (planOf maxFile (i .source) (i .options) (length (i .plane)) (length (i .palette))) et ∙ call-plan i
 
   -- of a ready plan: the rows 1 to 14 pass, and layout and sizes are the call's
   pub plan-ready : (l : Layout) (s : Sizes) → p ≡ plan.Ready l s → Planned i l s

@@ -1,5 +1,5 @@
 -- Which file is written: the stream, or the stored rows, or none.
-use mathlib.Core.Path.{_≡_, refl, sym, ap, _∙_}
+use mathlib.Core.Path.{_≡_, refl, sym, ap, subst, _∙_}
 use mathlib.Core.Bool.{Bool, true, false, not, cond, _&&_}
 use mathlib.Core.List.{List, [], _∷_}
 use Prim.Native.Nat.{ℕ, _+_, _*_, _≤_, _<_, max}
@@ -13,7 +13,7 @@ use Rattle.rows.specs.declared.rle.Rle.{Rle}
 use Rattle.rows.specs.declared.counting.StreamCount.{StreamCount}
 use Rattle.rows.specs.declared.counting.StreamCount.the-variants.{Under, OverBudget}
 use Rattle.rows.specs.RleCodes.{isRle4, depthOf}
-use Rattle.rows.specs.Stream.{stream, counted}
+use Rattle.rows.specs.Stream.{stream, isUnder, countedBytes, Counted}
 use Rattle.format.specs.declared.layout.Coding.{Coding}
 use Rattle.format.specs.declared.layout.Coding.the-variants.{Stream, Nothing}
 use Rattle.format.specs.declared.layout.Layout.{Layout}
@@ -37,32 +37,14 @@ budget-fits i s e = omega (arith, ap (λ (t : Sizes). t .«rle_budget») e)
 
 -- ---- what a count says
 
-lengthIn : StreamCount → ℕ
-lengthIn (Under len) = len
-lengthIn OverBudget = 0
-
-isUnder : StreamCount → Bool
-isUnder (Under len) = true
-isUnder OverBudget = false
-
-module _ (n limit : ℕ) where
-  test-is : isUnder (counted n limit) ≡ ltb n limit
-  unfolding isUnder
-  test-is = go (ltb n limit)
-    where
-      go : (b : Bool) → isUnder (cond b (Under n) OverBudget) ≡ b
-      go true = refl
-      go false = refl
-
-  under-is : (len : ℕ) → counted n limit ≡ Under len → (ltb n limit ≡ true) × (len ≡ n)
-  unfolding isUnder lengthIn
+module _ (n limit : ℕ) (count : StreamCount) (k : Counted n limit count) where
+  under-is : (len : ℕ) → count ≡ Under len → (ltb n limit ≡ true) × (len ≡ n)
   under-is len e =
-      let q : ltb n limit ≡ true = sym test-is ∙ ap isUnder e in
-      (q, sym (ap lengthIn e) ∙ ap (λ (b : Bool). lengthIn (cond b (Under n) OverBudget)) q)
+      let q : ltb n limit ≡ true = sym (k .under) ∙ ap isUnder e in
+      (q, sym (ap countedBytes e) ∙ k .bytes ∙ ap (λ (b : Bool). cond b n 0) q)
 
-  over-is : counted n limit ≡ OverBudget → ltb n limit ≡ false
-  unfolding isUnder
-  over-is e = sym test-is ∙ ap isUnder e
+  over-is : count ≡ OverBudget → ltb n limit ≡ false
+  over-is e = sym (k .under) ∙ ap isUnder e
 
 -- ---- stream or rows
 
@@ -96,13 +78,15 @@ module _ (i : Input) (l : Layout) (s : Sizes) (p : Planned i l s) where
 
   -- by the count of a planned stream
   module _ (rle : Rle) (count : StreamCount) (ec : l .coding ≡ Stream rle)
-      (en : count ≡ counted (length (stream (depthOf (isRle4 rle)) (i .source .width) (i .source .height) (i .plane) (i .source .stride))) (s .«rle_budget»)) where
+      (en : Counted (length (stream (depthOf (isRle4 rle)) (i .source .width) (i .source .height) (i .plane) (i .source .stride))) (s .«rle_budget») count) where
     is-planned : rlePlanned i ≡ true
     is-planned = stream-planned i l rle (p .layout-is) ec
 
-    count-is : count ≡ counted (length (streamOf i)) (budget maxFile i)
+    count-is : Counted (length (streamOf i)) (budget maxFile i) count
     unfolding sizesBy budget
-    count-is = en ∙ (λ z. counted (length (stream-coded i l rle (p .layout-is) ec z)) (ap (λ (t : Sizes). t .«rle_budget») (p .sizes-are) z))
+    count-is =
+        subst (λ (b : ℕ). Counted (length (streamOf i)) b count) (ap (λ (t : Sizes). t .«rle_budget») (p .sizes-are))
+        (subst (λ (x : List ℕ). Counted (length x) (s .«rle_budget») count) (stream-coded i l rle (p .layout-is) ec) en)
 
     -- under the budget the stream is written, and there is room for it
     pub stream-under : (len : ℕ) → count ≡ Under len → Streamed i l s rle len × ((streamOverBudget maxFile i ≡ false) × (s .head + len ≤ s .bound))
@@ -110,7 +94,7 @@ module _ (i : Input) (l : Layout) (s : Sizes) (p : Planned i l s) where
     stream-under len u =
         let n = length (streamOf i) in
         let b = budget maxFile i in
-        let both = under-is n b len (sym count-is ∙ u) in
+        let both = under-is n b count count-is len u in
         let under : n < b = ltb-true n b (both .0) in (
           record { planned = p; coded = ec; used = rw (is-planned, both .0); long = both .1 },
           (
@@ -127,7 +111,7 @@ module _ (i : Input) (l : Layout) (s : Sizes) (p : Planned i l s) where
     pub rows-instead : count ≡ OverBudget → s .«file_fits» ≡ true → RowsFit i s
     unfolding streamUsed streamOverBudget
     rows-instead o f =
-        let q = over-is (length (streamOf i)) (budget maxFile i) (sym count-is ∙ o) in
+        let q = over-is (length (streamOf i)) (budget maxFile i) count count-is o in
         let yes : leb (plainSize i) maxFile ≡ true = sym fits-is ∙ f in
         let small : plainSize i ≤ maxFile = leb-true (plainSize i) maxFile yes in
         let bound : s .bound ≡ headBytes i + max (budget maxFile i + 2 * i .source .width + 2) (rawBytes i)
@@ -144,7 +128,7 @@ module _ (i : Input) (l : Layout) (s : Sizes) (p : Planned i l s) where
     pub stream-over : count ≡ OverBudget → s .«file_fits» ≡ false → streamOverBudget maxFile i ≡ true
     unfolding streamOverBudget
     stream-over o f =
-        let q = over-is (length (streamOf i)) (budget maxFile i) (sym count-is ∙ o) in
+        let q = over-is (length (streamOf i)) (budget maxFile i) count count-is o in
         rw (is-planned, q, lt-ltb maxFile (plainSize i) (leb-false (plainSize i) maxFile (sym fits-is ∙ f)))
 
 -- answer and buffer by that test

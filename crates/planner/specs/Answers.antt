@@ -14,6 +14,10 @@ use Rattle.format.specs.Input.{Input}
 use Rattle.format.specs.Refusals.{planRows, writeRows}
 use Rattle.planner.specs.declared.encoder.Encoded.{Encoded}
 use Rattle.planner.specs.declared.encoder.Encoded.the-variants as encoded
+use Rattle.format.specs.declared.layout.Layout.{Layout}
+use Rattle.planner.specs.declared.plan.Plan.{Plan}
+use Rattle.planner.specs.declared.plan.Plan.the-variants as plan
+use Rattle.planner.specs.declared.plan.Sizes.{Sizes}
 use Rattle.planner.specs.declared.plan.SizeBound.{SizeBound}
 use Rattle.planner.specs.declared.plan.SizeBound.the-variants as sized
 
@@ -76,3 +80,23 @@ boundFor (check.Refused why) i = 0
 pub record Sized (i : Input) (answer : SizeBound) : Type 0 where
   pub number : boundNumber answer ≡ firstNumber (planRows maxFile i)
   pub bytes : boundBytes answer ≡ boundFor (firstOf (planRows maxFile i)) i
+
+-- ---- the plan, which both calls make first: 0 with what is planned, or the refusal's number
+
+abbrev pub planNumber : Plan → ℕ
+planNumber (plan.Ready layout sizes) = 0
+planNumber (plan.Refused why) = numberOf why
+
+-- the bytes that a writing call asks for; a refusal has none
+abbrev pub planBound : Plan → ℕ
+planBound (plan.Ready layout sizes) = sizes .bound
+planBound (plan.Refused why) = 0
+
+-- layout and sizes, as lists of one; a refusal has none
+abbrev pub planLayout : Plan → List Layout
+planLayout (plan.Ready layout sizes) = layout ∷ []
+planLayout (plan.Refused why) = []
+
+abbrev pub planSizes : Plan → List Sizes
+planSizes (plan.Ready layout sizes) = sizes ∷ []
+planSizes (plan.Refused why) = []

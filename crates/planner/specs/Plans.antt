@@ -8,11 +8,12 @@ use lib.ListN.{length}
 use Rattle.leaves.specs.declared.encoder.EncodeSource.{EncodeSource}
 use Rattle.leaves.specs.declared.error.Check.{Check}
 use Rattle.leaves.specs.declared.error.Check.the-variants as check
+use Rattle.leaves.specs.declared.error.Refusal.{Refusal}
 use Rattle.leaves.specs.declared.error.Refusal.the-variants.{FileTooLarge, StreamOverBudget}
 use Rattle.leaves.specs.declared.options.EncodeOptions.{EncodeOptions}
 use Rattle.leaves.specs.Formats.{isRgb565}
 use Rattle.leaves.specs.Lists.{cat}
-use Rattle.leaves.specs.Refusals.{firstOf}
+use Rattle.leaves.specs.Refusals.{firstOf, firstNumber}
 use Rattle.leaves.specs.Sizes.{clrUsed}
 use Rattle.format.specs.declared.layout.Layout.{Layout}
 use Rattle.format.specs.declared.layout.Mode.{Mode}
@@ -30,6 +31,7 @@ use Rattle.planner.specs.declared.heads.FirstFields.{FirstFields}
 use Rattle.planner.specs.declared.plan.Plan.{Plan}
 use Rattle.planner.specs.declared.plan.Plan.the-variants.{Ready, Refused}
 use Rattle.planner.specs.declared.plan.Sizes.{Sizes}
+use Rattle.planner.specs.Answers.{planNumber, planBound, planLayout, planSizes}
 
 -- ---- the plan
 
@@ -55,11 +57,27 @@ unfoldable pub sizesPlan : ℕ → Layout → ℕ → ℕ → ℕ → ℕ → Pl
 sizesPlan limit layout head raw tail width =
     planBy (firstOf ((not (isStream (layout .coding)) && ltb limit (head + raw + tail), FileTooLarge) ∷ [])) layout (sizesBy limit head raw tail (isStream (layout .coding)) width)
 
--- the first of 1 to 14 decides: of a plane, a palette and a profile of so many bytes
-unfoldable pub planOf : ℕ → EncodeSource → EncodeOptions → ℕ → ℕ → ℕ → Plan
-planOf limit s o planeBytes paletteBytes profileBytes =
-    planBy (firstOf (checkRows s o planeBytes paletteBytes ++ ((not (wantsRle s o) && ltb limit (headLen s o paletteBytes + rawLen s o + profileBytes), FileTooLarge) ∷ [])))
-    (layoutOf s o paletteBytes) (sizesBy limit (headLen s o paletteBytes) (rawLen s o) profileBytes (wantsRle s o) (s .width))
+-- 1 to 14, of a plane, a palette and a profile of so many bytes
+unfoldable pub lengthRows : ℕ → EncodeSource → EncodeOptions → ℕ → ℕ → ℕ → List (Bool × Refusal)
+lengthRows limit s o planeBytes paletteBytes profileBytes =
+    checkRows s o planeBytes paletteBytes ++ ((not (wantsRle s o) && ltb limit (headLen s o paletteBytes + rawLen s o + profileBytes), FileTooLarge) ∷ [])
+
+-- what a check lets pass, as a list of one, and as a number or 0
+abbrev pub passing : {A : Type 0} → Check → A → List A
+passing check.Passed a = a ∷ []
+passing (check.Refused why) a = []
+
+abbrev pub orZero : Check → ℕ → ℕ
+orZero check.Passed n = n
+orZero (check.Refused why) n = 0
+
+-- the promise of the plan
+pub record PlannedBy (limit : ℕ) (s : EncodeSource) (o : EncodeOptions) (planeBytes paletteBytes profileBytes : ℕ) (answer : Plan) : Type 0 where
+  -- the first of 1 to 14 that applies, or 0
+  pub number : planNumber answer ≡ firstNumber (lengthRows limit s o planeBytes paletteBytes profileBytes)
+  pub bound : planBound answer ≡ orZero (firstOf (lengthRows limit s o planeBytes paletteBytes profileBytes)) (sizesBy limit (headLen s o paletteBytes) (rawLen s o) profileBytes (wantsRle s o) (s .width) .bound)
+  pub layout : planLayout answer ≡ passing (firstOf (lengthRows limit s o planeBytes paletteBytes profileBytes)) (layoutOf s o paletteBytes)
+  pub sizes : planSizes answer ≡ passing (firstOf (lengthRows limit s o planeBytes paletteBytes profileBytes)) (sizesBy limit (headLen s o paletteBytes) (rawLen s o) profileBytes (wantsRle s o) (s .width))
 
 -- a call's layout and sizes
 abbrev pub layoutIn : Input → Layout

@@ -13,7 +13,7 @@ ghost use Rattle.format.specs.Layout.{modeOf, wantsRle, isStream};
 ghost use Rattle.format.specs.Refusals.{givenMasksRows, checkRows};
 ghost use Rattle.planner.specs.Answers.{Sized};
 ghost use Rattle.planner.specs.Calls.{called};
-ghost use Rattle.planner.specs.Plans.{planOf, sizesPlan};
+ghost use Rattle.planner.specs.Plans.{PlannedBy, sizesPlan};
 use crate::layout::head_len;
 use crate::layout::layout_of;
 use crate::layout::mode_of;
@@ -212,7 +212,7 @@ pub fn plan_for(
 ) -> Plan
     requires { ⌜ mode ≡ modeOf src options ⌝ }
     requires { ⌜ (wantsRle src options ≡ true → «profile_bytes» ≡ 0) ⌝ }
-    ensures { λ r. ⌜ r ≡ planOf maxFile src options «plane_bytes» «palette_bytes» «profile_bytes» ⌝ }
+    ensures { λ r. ⌜ PlannedBy maxFile src options «plane_bytes» «palette_bytes» «profile_bytes» r ⌝ }
 {
     let check = checks(src, options, plane_bytes, palette_bytes);
     if let Check::Refused(why) = check {

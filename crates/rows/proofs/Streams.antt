@@ -1,20 +1,21 @@
 -- Laws of the stream: its rows, its length, and a turn of the loops that count and write it.
-use mathlib.Core.Path.{_≡_, refl, ap, _∙_}
-use mathlib.Core.Bool.{Bool, false, cond}
+use mathlib.Core.Path.{_≡_, refl, sym, ap, _∙_}
+use mathlib.Core.Bool.{Bool, true, false, cond}
 use mathlib.Core.List.{List, [], _∷_, _++_}
 use Prim.Native.Nat.{ℕ, suc, _+_, _-_, _*_, _≤_, _<_}
 use native.Mathlib.Nat.{mul-le-mul-right, suc-mul, mul-comm}
 use native.Mathlib.Numerals.{add-one}
 use native.Mathlib.Omega.{arith}
 use borrow.Author.Tests.{lt-ltb, le-ltb}
-use lib.Dec.{eqb}
+use lib.Dec.{eqb, ltb}
 use lib.ListN.{length, take, drop, length-append}
+use Rattle.rows.specs.declared.counting.StreamCount.{StreamCount}
 use Rattle.rows.specs.declared.counting.StreamCount.the-variants.{Under, OverBudget}
 use Rattle.leaves.specs.Lists.{cat}
 use Rattle.leaves.specs.Put.{put}
 use Rattle.rows.specs.RleCodes.{rowCodes}
 use Rattle.rows.specs.StoredRows.{rowOf, sourceRow}
-use Rattle.rows.specs.Stream.{endMark, streamRow, stream, counted}
+use Rattle.rows.specs.Stream.{endMark, streamRow, stream, isUnder, countedBytes, Counted}
 use Rattle.leaves.proofs.Puts.{put-append}
 use Rattle.rows.proofs.StreamPlaces.{cat-grows}
 
@@ -75,8 +76,29 @@ module _ (d w h : ℕ) (plane : List ℕ) (stride y : ℕ) where
 
 -- ---- the count
 
-pub over : (n budget : ℕ) → budget ≤ n → OverBudget ≡ counted n budget
-over n budget h = rw (le-ltb n budget h)
+pub over : (n budget : ℕ) → budget ≤ n → Counted n budget OverBudget
+over n budget h =
+    let q : ltb n budget ≡ false = le-ltb n budget h in
+    record { under = sym q; bytes = sym (ap (λ (b : Bool). cond b n 0) q) }
 
-pub under : (m n budget : ℕ) → m ≡ n → m < budget → Under m ≡ counted n budget
-under m n budget e h = rw (← e, lt-ltb m budget h)
+pub under : (m n budget : ℕ) → m ≡ n → m < budget → Counted n budget (Under m)
+under m n budget e h =
+    let q : ltb n budget ≡ true = lt-ltb n budget (omega (arith, e, h)) in
+    record { under = sym q; bytes = e ∙ sym (ap (λ (b : Bool). cond b n 0) q) }
+
+-- an answer by what it says
+rebuilt : Bool → ℕ → StreamCount
+rebuilt true bytes = Under bytes
+rebuilt false bytes = OverBudget
+
+rebuilds : (r : StreamCount) → rebuilt (isUnder r) (countedBytes r) ≡ r
+unfolding rebuilt
+rebuilds (Under bytes) = refl
+rebuilds OverBudget = refl
+
+-- two answers of which the promise holds are one
+pub count-determined : (n budget : ℕ) (r s : StreamCount) → Counted n budget r → Counted n budget s → r ≡ s
+count-determined n budget r s p q =
+    let same : isUnder r ≡ isUnder s = p .under ∙ sym (q .under) in
+    let bytes : countedBytes r ≡ countedBytes s = p .bytes ∙ sym (q .bytes) in
+    sym (rebuilds r) ∙ (λ z. rebuilt (same z) (bytes z)) ∙ rebuilds s

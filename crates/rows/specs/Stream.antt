@@ -1,5 +1,6 @@
 -- The stream: the rows' codes in stored order, each row with its end.
-use mathlib.Core.Bool.{false, cond}
+use mathlib.Core.Path.{_≡_}
+use mathlib.Core.Bool.{Bool, true, false, cond}
 use mathlib.Core.List.{List, [], _∷_, _++_}
 use Prim.Native.Nat.{ℕ, _+_, _-_}
 use lib.Dec.{ltb, eqb}
@@ -21,6 +22,20 @@ streamRow d w h plane stride s = rowCodes d (sourceRow plane stride w (rowOf fal
 unfoldable pub stream : ℕ → ℕ → ℕ → List ℕ → ℕ → List ℕ
 stream d w h plane stride = cat (streamRow d w h plane stride) h
 
--- document 01, Cells: "The stream is used exactly if its whole counted length is under the budget, and "over budget" means that this count is at least the budget"
-abbrev pub counted : ℕ → ℕ → StreamCount
-counted length budget = cond (ltb length budget) (Under length) OverBudget
+-- ---- what a count answers
+
+-- whether the stream is under the budget
+abbrev pub isUnder : StreamCount → Bool
+isUnder (Under bytes) = true
+isUnder OverBudget = false
+
+-- its length; over budget there is none
+abbrev pub countedBytes : StreamCount → ℕ
+countedBytes (Under bytes) = bytes
+countedBytes OverBudget = 0
+
+-- the promise of a count, of a stream of this length. Document 01, Cells: "The stream is used exactly if its whole counted length is under the
+-- budget, and "over budget" means that this count is at least the budget"
+pub record Counted (length budget : ℕ) (answer : StreamCount) : Type 0 where
+  pub under : isUnder answer ≡ ltb length budget
+  pub bytes : countedBytes answer ≡ cond (ltb length budget) length 0

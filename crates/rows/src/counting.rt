@@ -6,7 +6,7 @@ ghost use Prim.Native.Nat.{_+_, _*_, _<_, _≤_, _^_};
 ghost use lib.Bits.{bitXor};
 ghost use lib.ListN.{length, getD, drop};
 ghost use Rattle.rows.specs.RleCodes.{isRle4, depthOf, cells, runLength, rowCodes};
-ghost use Rattle.rows.specs.Stream.{stream, counted};
+ghost use Rattle.rows.specs.Stream.{stream, Counted};
 ghost use Rattle.rows.specs.Windows.{Coding};
 ghost use Rattle.rows.specs.Words.{word};
 use crate::blocks::block_from;
@@ -140,7 +140,7 @@ pub fn rle_len(
     requires { ⌜ width ≤ stride ⌝ }
     requires { ⌜ stride * height ≤ length (now plane) ⌝ }
     requires { ⌜ budget ≤ 2 ^ 32 ⌝ }
-    ensures { λ r. ⌜ r ≡ counted (length (stream (depthOf (isRle4 rle)) width height (now (plane .entry)) stride)) budget ⌝ }
+    ensures { λ r. ⌜ Counted (length (stream (depthOf (isRle4 rle)) width height (now (plane .entry)) stride)) budget r ⌝ }
 {
     let four = rle.is_rle4();
     let w = width as usize;
