@@ -30,8 +30,8 @@ pub data Example : Type 0 where
   stride : ℕ → ℕ → ℕ → Example
   -- a depth, the four masks, the number that the mask check gives
   masks : ℕ → List ℕ → ℕ → Example
-  -- a call, its bound, its file
-  file : Input → ℕ → List ℕ → Example
+  -- a call, its bound, the bytes that it reports, its file
+  file : Input → ℕ → ℕ → List ℕ → Example
 
 -- what the definitions give
 unfoldable pub found : Example → List ℕ
@@ -39,7 +39,7 @@ found (row depth indices result) = rowCodes depth indices
 found (sample bits value result) = fit bits value ∷ []
 found (stride width depth result) = rowStride width depth ∷ []
 found (masks depth four result) = firstNumber (bitfieldsRows depth four) ∷ []
-found (file input bound result) = boundOf maxFile input ∷ fileOf maxFile input
+found (file input bound size result) = boundOf maxFile input ∷ fileSize maxFile input ∷ fileOf maxFile input
 
 -- what document 01 prints
 unfoldable pub printed : Example → List ℕ
@@ -47,7 +47,7 @@ printed (row depth indices result) = result
 printed (sample bits value result) = result ∷ []
 printed (stride width depth result) = result ∷ []
 printed (masks depth four result) = result ∷ []
-printed (file input bound result) = bound ∷ result
+printed (file input bound size result) = bound ∷ size ∷ result
 
 unfoldable pub m12File : List ℕ
 m12File =
@@ -83,7 +83,7 @@ marked =
     ∷ masks 16 (0xA00 ∷ 0 ∷ 0 ∷ 0 ∷ []) 8
     ∷ masks 16 (0 ∷ 0 ∷ 0 ∷ 0xFF00 ∷ []) 10
     -- M12
-    ∷ file (sevens 5 5 5) 78 m12File
+    ∷ file (sevens 5 5 5) 78 62 m12File
     ∷ []
 
 -- M1 to M12
