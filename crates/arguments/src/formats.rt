@@ -19,14 +19,14 @@ fn format_number(name: &[u8]) -> usize
     )
 }
 
-pub fn is_format(name: &[u8]) -> bool
+pub(crate) fn is_format(name: &[u8]) -> bool
     ensures { λ r. ⌜ r ≡ isFormat (now (name .entry)) ⌝ }
 {
     format_number(name) < 10
 }
 
 // The layout that is so called; Pal8 where none is.
-pub fn format_named(name: &[u8]) -> BmpPixelFormat
+pub(crate) fn format_named(name: &[u8]) -> BmpPixelFormat
     ensures { λ r. ⌜ r ≡ formatNamed (now (name .entry)) ⌝ }
 {
     match format_number(name) {

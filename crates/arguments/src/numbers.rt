@@ -68,13 +68,13 @@ pub fn number(text: &[u8]) -> u64
     digits(text, 10)
 }
 
-pub fn is_number(text: &[u8]) -> bool
+pub(crate) fn is_number(text: &[u8]) -> bool
     ensures { λ r. ⌜ r ≡ isNumber (now (text .entry)) ⌝ }
 {
     number(text) != NOT_A_NUMBER
 }
 
-pub fn is_number32(text: &[u8]) -> bool
+pub(crate) fn is_number32(text: &[u8]) -> bool
     ensures { λ r. ⌜ r ≡ isNumber32 (now (text .entry)) ⌝ }
 {
     number(text) <= 0xFFFF_FFFF
@@ -91,13 +91,13 @@ fn number_to(text: &[u8], most: u64) -> u64
     0
 }
 
-pub fn number16(text: &[u8]) -> u16
+pub(crate) fn number16(text: &[u8]) -> u16
     ensures { λ r. ⌜ r ≡ number16 (now (text .entry)) ⌝ }
 {
     number_to(text, 0xFFFF) as u16
 }
 
-pub fn number32(text: &[u8]) -> u32
+pub(crate) fn number32(text: &[u8]) -> u32
     ensures { λ r. ⌜ r ≡ number32 (now (text .entry)) ⌝ }
 {
     number_to(text, 0xFFFF_FFFF) as u32
@@ -119,7 +119,7 @@ fn magnitude(text: &[u8]) -> u64
     number(text)
 }
 
-pub fn is_signed32(text: &[u8]) -> bool
+fn is_signed32(text: &[u8]) -> bool
     ensures { λ r. ⌜ r ≡ isSigned32 (now (text .entry)) ⌝ }
 {
     let most = if is_negative(text) {
@@ -131,7 +131,7 @@ pub fn is_signed32(text: &[u8]) -> bool
 }
 
 // The number with or without a sign that a text is; 0 where it is none.
-pub fn signed32(text: &[u8]) -> i32
+pub(crate) fn signed32(text: &[u8]) -> i32
     ensures { λ r. ⌜ r ≡ signed32 (now (text .entry)) ⌝ }
 {
     if !is_signed32(text) {
@@ -155,7 +155,7 @@ fn is_item(text: &[u8], signed: bool) -> bool
 }
 
 // Whether a list with commas has so many numbers, of which so many first ones may have a sign.
-pub fn are_numbers(list: &[u8], count: usize, signed: usize) -> bool
+pub(crate) fn are_numbers(list: &[u8], count: usize, signed: usize) -> bool
     ensures { λ r. ⌜ r ≡ areNumbers count signed (now (list .entry)) ⌝ }
 {
     if items(list, b',') != count {

@@ -33,7 +33,7 @@ pub fn end_of(text: &[u8], at: usize, mark: u8) -> usize
 }
 
 // The piece of a text that starts at a place.
-pub fn piece<'a>(text: &'a [u8], at: usize, mark: u8) -> &'a [u8]
+pub(crate) fn piece<'a>(text: &'a [u8], at: usize, mark: u8) -> &'a [u8]
     requires { ⌜ at ≤ length (now text) ⌝ }
     ensures { λ r. ⌜ now r ≡ upTo mark (drop at (now (text .entry))) ⌝ }
 {
@@ -88,7 +88,7 @@ pub fn item<'a>(list: &'a [u8], k: usize, mark: u8) -> &'a [u8]
 }
 
 // How many items a list with a mark between its items has.
-pub fn items(list: &[u8], mark: u8) -> usize
+pub(crate) fn items(list: &[u8], mark: u8) -> usize
     ensures { λ r. ⌜ (r ≡ length (itemsOf mark (now (list .entry)))) × (r ≤ length (now (list .entry)) + 1) ⌝ }
 {
     let mut count: usize = 1;
@@ -101,7 +101,7 @@ pub fn items(list: &[u8], mark: u8) -> usize
 }
 
 // Which item of a list with commas a name is, from 0; how many items there are where it is none.
-pub fn place_in(list: &[u8], name: &[u8]) -> usize
+pub(crate) fn place_in(list: &[u8], name: &[u8]) -> usize
     ensures { λ r. ⌜ r ≡ placeAmong (itemsOf 44 (now (list .entry))) (now (name .entry)) ⌝ }
 {
     let count = items(list, b',');

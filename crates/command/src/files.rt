@@ -86,7 +86,7 @@ fn write_then_rename(path: &[u8], while_written: &[u8], bytes: &[u8]) -> bool {
 
 // Writes a file, or leaves the one of that name as it is. Whether it can be written is free, but a name that
 // is too long never is.
-pub fn save(path: &[u8], bytes: &[u8]) -> bool
+pub(crate) fn save(path: &[u8], bytes: &[u8]) -> bool
     ensures { λ r. ⌜ (4000 < length (now (path .entry)) → r ≡ false) ⌝ }
 {
     if path.len() > 4000 {
@@ -141,7 +141,7 @@ fn with_number(before: u32, n: usize) -> u32
     sum
 }
 
-pub fn checksum(bytes: &[u8]) -> u32
+pub(crate) fn checksum(bytes: &[u8]) -> u32
     ensures { λ r. ⌜ r ≡ cksum (now (bytes .entry)) ⌝ }
 {
     !with_number(of_bytes(bytes), bytes.len())

@@ -89,7 +89,7 @@ pub fn plain_token(format: BmpPixelFormat) -> EncodedBmpFormat
 }
 
 // Entries of a full colour table; 0 at a depth that has none.
-pub fn palette_entry_count(bpp: u16) -> usize
+fn palette_entry_count(bpp: u16) -> usize
     ensures { λ r. ⌜ r ≡ paletteEntryCount bpp ⌝ }
 {
     match bpp {

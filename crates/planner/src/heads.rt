@@ -32,7 +32,7 @@ pub struct FirstFields {
 }
 
 // DWORDs in a row.
-pub fn put_dwords(buf: &mut [u8], at: usize, src: &[u32])
+pub(crate) fn put_dwords(buf: &mut [u8], at: usize, src: &[u32])
     requires { ⌜ length (now src) < 2 ^ 40 ⌝ }
     requires { ⌜ at + 4 * length (now src) ≤ length (now buf) ⌝ }
     ensures { λ _. ⌜ now (buf .exit) ≡ put (now (buf .entry)) at (dwords (now (src .entry))) ⌝ }
@@ -73,7 +73,7 @@ fn put_longs(buf: &mut [u8], at: usize, src: &[i32])
 
 // BITMAPFILEHEADER and BITMAPINFOHEADER, or the first 40 bytes of a longer header. After the two letters
 // all is in DWORDs: planes and bit count are one, and so are the two reserved words.
-pub fn write_first_fields(buf: &mut [u8], at: usize, h: FirstFields)
+pub(crate) fn write_first_fields(buf: &mut [u8], at: usize, h: FirstFields)
     requires { ⌜ at + 54 ≤ length (now buf) ⌝ }
     ensures { λ _. ⌜ now (buf .exit) ≡ put (now (buf .entry)) at (firstFields h) ⌝ }
 {
@@ -98,7 +98,7 @@ pub fn write_first_fields(buf: &mut [u8], at: usize, h: FirstFields)
 }
 
 // BITMAPV4HEADER after its first 40 bytes.
-pub fn write_v4_fields(
+pub(crate) fn write_v4_fields(
     buf: &mut [u8],
     at: usize,
     masks: [u32; 4],
@@ -116,7 +116,7 @@ pub fn write_v4_fields(
 }
 
 // The masks of mask mode, which stand behind a 40-byte header: three, or four with an alpha mask.
-pub fn write_masks(buf: &mut [u8], at: usize, masks: [u32; 4])
+pub(crate) fn write_masks(buf: &mut [u8], at: usize, masks: [u32; 4])
     requires { ⌜ at + length (maskTail masks) ≤ length (now buf) ⌝ }
     ensures { λ _. ⌜ now (buf .exit) ≡ put (now (buf .entry)) at (maskTail masks) ⌝ }
 {
@@ -150,7 +150,7 @@ fn table_entry(palette: &[u8], k: usize) -> [u8; 4]
 }
 
 // The colour table.
-pub fn write_color_table(buf: &mut [u8], at: usize, palette: &[u8], entries: usize)
+pub(crate) fn write_color_table(buf: &mut [u8], at: usize, palette: &[u8], entries: usize)
     requires { ⌜ entries ≤ 256 ⌝ }
     requires { ⌜ at + 4 * entries ≤ length (now buf) ⌝ }
     ensures { λ _. ⌜ now (buf .exit) ≡ put (now (buf .entry)) at (cat (tableEntry (now (palette .entry))) entries) ⌝ }

@@ -79,7 +79,7 @@ fn is_plain(mode: Mode) -> bool
 }
 
 // The profile that becomes the tail: one of the two lent slices, or an empty part.
-pub fn tail<'a>(mode: Mode, linked: bool, icc: &'a [u8], linked_icc: &'a [u8]) -> &'a [u8]
+pub(crate) fn tail<'a>(mode: Mode, linked: bool, icc: &'a [u8], linked_icc: &'a [u8]) -> &'a [u8]
     ensures { λ r. ⌜ now r ≡ tailIn mode linked (now (icc .entry)) (now («linked_icc» .entry)) ⌝ }
 {
     if is_profiled(mode) {
@@ -142,7 +142,7 @@ fn header_size(mode: Mode, format: BmpPixelFormat) -> u32
 }
 
 // The masks in a 108- or 124-byte header.
-pub fn long_masks(format: BmpPixelFormat) -> [u32; 4]
+pub(crate) fn long_masks(format: BmpPixelFormat) -> [u32; 4]
     ensures { λ r. ⌜ r ≡ longMasks format ⌝ }
 {
     match format {
@@ -214,7 +214,7 @@ fn table_entries(format: BmpPixelFormat, palette_bytes: usize, minimal_palette: 
 }
 
 // All that source and options decide.
-pub fn layout_of(
+pub(crate) fn layout_of(
     mode: Mode,
     src: EncodeSource,
     options: EncodeOptions,
@@ -271,7 +271,7 @@ fn mask_bytes(mode: Mode, bitfields: BmpBitfields) -> usize
 }
 
 // Bytes before the pixels.
-pub fn head_len(
+pub(crate) fn head_len(
     layout: Layout,
     src: EncodeSource,
     options: EncodeOptions,

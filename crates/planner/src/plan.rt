@@ -202,7 +202,7 @@ fn sizes_for(
 }
 
 // 1 to 14, and layout and sizes of what they let pass.
-pub fn plan_for(
+pub(crate) fn plan_for(
     mode: Mode,
     src: EncodeSource,
     options: EncodeOptions,

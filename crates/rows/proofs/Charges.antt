@@ -4,15 +4,16 @@ use mathlib.Core.Bool.{Bool, true, false, not, cond, _&&_, _||_, false≢true}
 use mathlib.Core.Logic.{_⊎_, inl, inr}
 use Prim.Native.Nat.{ℕ, zero, suc, _+_, _-_, _*_, _/_, _%_, _^_, _≤_, _<_}
 use native.Mathlib.Nat.{eq-zero-or-pos, div-le-self}
+use native.Mathlib.Numerals.{add-one}
 use native.Mathlib.Omega.{arith}
 use lib.Pow.{ones-split, ones-lt, high}
 use lib.Bits.{bitAnd, bitOr, bitXor, and-mask, and-le-r}
-use lib.Count.{ones, ones-le, leadingZeros, leading-of-zero, leading-top}
+use lib.Count.{ones, ones-le, leadingZeros, leading-of-zero, leading-top, leading-length}
 use borrow.Author.Tests.{lt-ltb, le-ltb}
 use lib.ListN.{length}
 use mathlib.Core.List.{List}
 use Rattle.rows.specs.Windows.{fromBits, total, twins, flagsAt, before, lone, first, evenPlace, charged}
-use Rattle.rows.proofs.FromBits.{bits-ext, bits-down, bits-and, bits-or, bits-xor, bits-not, bits-up, bits-add, bits-mod, bits-ones, bits-lt, bits-top, unlike, carry, summed}
+use Rattle.rows.proofs.FromBits.{bits-ext, bits-down, bits-and, bits-or, bits-xor, bits-not, bits-up, bits-add, bits-mod, bits-ones, bits-lt, bits-top, bits-above, unlike, carry, summed}
 
 unfoldable pub even : ℕ → Bool
 even zero = true
@@ -208,6 +209,22 @@ whole-law e f h = go (eq-zero-or-pos (endWord e))
         let a : 2 ^ (t .0) ≤ fromBits (ends f) (suc (t .0) + n) = subst (λ (z : ℕ). 2 ^ (t .0) ≤ z) (sym v) (t .2) in
         let b : fromBits (ends f) (suc (t .0) + n) < 2 ^ suc (t .0) = subst (λ (z : ℕ). z < 2 ^ suc (t .0)) (sym v) (t .3) in
         whole-at f (64 - n) (t .0) (omega (arith, t .1)) (omega arith) (bits-top (ends f) (t .0) n a b)
+
+-- and behind it none does
+pub last-law : (e : ℕ) → (f : ℕ → Bool) → e ≡ fromBits f 64 → (k : ℕ) → 64 - leadingZeros 64 (endWord e) ≤ k + 1 → k < 63 → f k ≡ true → f (k + 1) ≡ true
+last-law e f h k past inside t =
+    let w : endWord e ≡ fromBits (ends f) 64 = ands (before f) (λ k. not (f k)) (up e) (flip e) (ups f e h) (flips f e h) in
+    let m = leading-length 64 (endWord e) (subst (λ (z : ℕ). z < 2 ^ 64) (sym w) (bits-lt (ends f) 64)) in
+    let s : 64 ≡ m .0 + (64 - m .0) = omega (arith, m .1) in
+    let v : endWord e ≡ fromBits (ends f) (m .0 + (64 - m .0)) = w ∙ ap (fromBits (ends f)) s in
+    let none = bits-above (ends f) (m .0) (64 - m .0) (subst (λ (z : ℕ). z < 2 ^ (m .0)) v (m .2)) (suc k - m .0) (omega (arith, m .1)) in
+    let place : m .0 + (suc k - m .0) ≡ suc k = omega (arith, m .1) in
+    ap f (add-one k) ∙ go (f k) (f (suc k)) t (sym (ap (ends f) place) ∙ none)
+  where
+    go : (a b : Bool) → a ≡ true → a && not b ≡ false → b ≡ true
+    go true true p q = refl
+    go true false p q = absurd (false≢true (sym q))
+    go false b p q = absurd (false≢true p)
 
 -- ---- the flags of a window at a place
 

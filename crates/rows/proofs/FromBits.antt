@@ -2,7 +2,8 @@
 use mathlib.Core.Path.{_≡_, refl, sym, ap, ap₂, _∙_}
 use mathlib.Core.Bool.{Bool, true, false, not, cond, _&&_, _||_}
 use Prim.Native.Nat.{ℕ, zero, suc, _+_, _-_, _*_, _/_, _%_, _^_, _≤_, _<_}
-use native.Mathlib.Nat.{pow-suc, suc-add, zero-add, mod-eq-of-lt}
+use mathlib.Core.Logic.{_⊎_, inl, inr}
+use native.Mathlib.Nat.{pow-suc, suc-add, zero-add, mod-eq-of-lt, eq-zero-or-pos, mul-le-mul-right, not-suc-le-zero, le-of-suc-le-suc}
 use native.Mathlib.Omega.{arith}
 use lib.Arith.{digits-div, digits-mod}
 use lib.Dec.{lit<}
@@ -166,6 +167,28 @@ bits-none : (f : ℕ → Bool) (n : ℕ) → ((k : ℕ) → k < n → f k ≡ fa
 unfolding fromBits
 bits-none f zero h = refl
 bits-none f (suc n) h = rw (h 0 (omega arith), bits-none (λ k. f (suc k)) n (λ k l. h (suc k) (omega arith)))
+
+-- a number without bits has none that holds
+bits-zero : (f : ℕ → Bool) (n : ℕ) → fromBits f n ≡ 0 → (k : ℕ) → k < n → f k ≡ false
+unfolding fromBits
+bits-zero f zero e k l = absurd (not-suc-le-zero l)
+bits-zero f (suc n) e zero l = go (f 0) (omega (arith, e))
+  where
+    go : (b : Bool) → bit b ≡ 0 → b ≡ false
+    go true q = let z : ⊥ = omega (arith, q) in absurd z
+    go false q = refl
+bits-zero f (suc n) e (suc k) l = bits-zero (λ k. f (suc k)) n (omega (arith, e)) k (le-of-suc-le-suc l)
+
+-- below 2 ^ j no bit from j on holds
+pub bits-above : (f : ℕ → Bool) (j n : ℕ) → fromBits f (j + n) < 2 ^ j → (k : ℕ) → k < n → f (j + k) ≡ false
+bits-above f j n h = bits-zero (λ k. f (j + k)) n (go (eq-zero-or-pos (fromBits (λ k. f (j + k)) n)))
+  where
+    go : (fromBits (λ k. f (j + k)) n ≡ 0) ⊎ (0 < fromBits (λ k. f (j + k)) n) → fromBits (λ k. f (j + k)) n ≡ 0
+    go (inl z) = z
+    go (inr p) =
+        let up : 1 * 2 ^ j ≤ fromBits (λ k. f (j + k)) n * 2 ^ j = mul-le-mul-right (2 ^ j) p in
+        let z : ⊥ = omega (arith, h, up, bits-append f j n) in
+        absurd z
 
 -- the bits from s on, with none past the n-th, as m more bits
 pub bits-down : (f g : ℕ → Bool) (s n m : ℕ) → ((k : ℕ) → k < n → g k ≡ f (s + k)) → ((k : ℕ) → k < m → g (n + k) ≡ false) → fromBits f (s + n) / 2 ^ s ≡ fromBits g (n + m)

@@ -29,7 +29,7 @@ pub enum Rle {
 }
 
 impl Rle {
-    pub fn is_rle4(self) -> bool
+    pub(crate) fn is_rle4(self) -> bool
         ensures { λ r. ⌜ r ≡ isRle4 self ⌝ }
     {
         match self {

@@ -98,7 +98,7 @@ pub(crate) fn charge_below(e: u64, v: usize) -> usize
 
 // Past the last cell of the window's last run that ends in it; 0 where none does.
 pub(crate) fn whole_runs(e: u64) -> usize
-    ensures { λ r. ⌜ ((f : ℕ → Bool) → e ≡ fromBits f 64 → (r ≡ 0) ⊎ ((2 ≤ r) × (r ≤ 64) × (f (r - 2) ≡ true) × (f (r - 1) ≡ false))) × (r ≤ 64) ⌝ }
+    ensures { λ r. ⌜ ((f : ℕ → Bool) → e ≡ fromBits f 64 → (r ≡ 0) ⊎ ((2 ≤ r) × (r ≤ 64) × (f (r - 2) ≡ true) × (f (r - 1) ≡ false))) × (r ≤ 64) × ((f : ℕ → Bool) → e ≡ fromBits f 64 → (k : ℕ) → r ≤ k + 1 → k < 63 → f k ≡ true → f (k + 1) ≡ true) ⌝ }
 {
     let ends = e << 1 & !e;
     64 - u64::leading_zeros(ends) as usize
