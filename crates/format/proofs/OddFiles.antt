@@ -77,9 +77,10 @@ files =
     ∷ both (take 53 (head 54 40 1 0 3 7 0)) (refuses short)
     ∷ both (take 53 (head 54 12 1 0 24 0 0)) (refuses short)
     ∷ both (head 54 40 1 0 24 0 0) (shown 1 0 [] [])
-    -- a header of 108 bytes without its last byte, and whole
+    -- a header of 108 bytes without its last byte, and whole; one of 65,536 + 40
     ∷ both (head 122 108 1 0 24 0 0 ++ replicate 67 99) (refuses short)
     ∷ both (head 122 108 1 0 24 0 0 ++ replicate 68 99) (shown 1 0 [] [])
+    ∷ both (head 54 65576 1 0 24 0 0) (refuses short)
     -- a header size of 12: the fields stand where they stand, the table from byte 26
     ∷ both (head 54 12 2 1 1 0 1 ++ (0x40 ∷ [])) (shown 2 1 (rgb 1 99 99 ∷ []) ((index 0 ∷ index 1 ∷ []) ∷ []))
     -- depths that neither knows, before the compression is looked at; depth 2
@@ -92,7 +93,7 @@ files =
     ∷ both (kind 24 4) (refuses unknownCompression)
     ∷ both (kind 32 5) (refuses unknownCompression)
     ∷ both (kind 8 7) (refuses unknownCompression)
-    ∷ both (kind 8 257) (refuses unknownCompression)
+    ∷ both (kind 8 65537) (refuses unknownCompression)
     -- 1 off depth 8
     ∷ both (kind 1 1) (refuses pairing)
     ∷ both (kind 4 1) (refuses pairing)
@@ -107,14 +108,18 @@ files =
     ∷ both (kind 24 3) (refuses pairing)
     ∷ apart (kind 4 6) (refuses unknownCompression) (refuses pairing)
     ∷ apart (kind 24 6) (refuses unknownCompression) (refuses pairing)
+    -- a table that is missing too: depth and pairing come first
+    ∷ both (head 54 40 1 1 3 0 0) (refuses unknownDepth)
+    ∷ both (head 54 40 1 1 4 1 0) (refuses pairing)
     -- three masks without their last byte, and whole; four
     ∷ both (head 66 40 1 0 16 3 0 ++ replicate 11 99) (refuses short)
     ∷ both (head 66 40 1 0 16 3 0 ++ replicate 12 99) (shown 1 0 [] [])
     ∷ apart (head 70 40 1 0 16 6 0 ++ replicate 15 99) (refuses unknownCompression) (refuses short)
     ∷ apart (head 70 40 1 0 16 6 0 ++ replicate 16 99) (refuses unknownCompression) (shown 1 0 [] [])
-    -- a table of one entry without its last byte, and whole; a count of 0 at depth 1; a count of 3 there
+    -- a table of one entry without its last byte, and whole; a count of 65,536 + 1; a count of 0 at depth 1; a count of 3 there
     ∷ both (head 58 40 1 0 8 0 1 ++ (1 ∷ 2 ∷ 3 ∷ [])) (refuses short)
     ∷ both (head 58 40 1 0 8 0 1 ++ (1 ∷ 2 ∷ 3 ∷ 4 ∷ [])) (shown 1 0 colour [])
+    ∷ both (head 58 40 1 0 8 0 65537 ++ (1 ∷ 2 ∷ 3 ∷ 4 ∷ [])) (refuses short)
     ∷ both (head 62 40 1 0 1 0 0 ++ tab (λ k. k) 7) (refuses short)
     ∷ both (head 62 40 1 0 1 0 0 ++ tab (λ k. k) 8) (shown 1 0 (rgb 2 1 0 ∷ rgb 6 5 4 ∷ []) [])
     ∷ both (head 66 40 1 0 1 0 3 ++ tab (λ k. k) 11) (refuses short)
@@ -131,10 +136,10 @@ files =
     ∷ both (head 54 40 1 (minus 2) 24 0 5 ++ (1 ∷ 2 ∷ 3 ∷ 99 ∷ 4 ∷ 5 ∷ 6 ∷ [])) (shown 1 2 [] ((rgb 3 2 1 ∷ []) ∷ (rgb 6 5 4 ∷ []) ∷ []))
     ∷ both (head 58 40 1 1 8 0 1 ++ (1 ∷ 2 ∷ 3 ∷ 4 ∷ 200 ∷ [])) (shown 1 1 colour ((index 200 ∷ []) ∷ []))
     ∷ both (head 17 40 1 1 24 0 0) (shown 1 1 [] ((rgb 0 1 0 ∷ []) ∷ []))
-    -- no column and no row, with an offset past the end; a cell there; a width with the top bit set, with a row and with none
+    -- no column and no row, with an offset past the end; a cell at 65,536 + 54; a width with the top bit set, with a row and with none
     ∷ both (head 1000 40 0 2 24 0 0) (shown 0 2 [] ([] ∷ [] ∷ []))
     ∷ both (head 1000 40 2 0 24 0 0) (shown 2 0 [] [])
-    ∷ both (head 1000 40 1 1 24 0 0) (refuses short)
+    ∷ both (head 65590 40 1 1 24 0 0 ++ (1 ∷ 2 ∷ 3 ∷ [])) (refuses short)
     ∷ both (rgb24 2147483648 1 (1 ∷ 2 ∷ 3 ∷ [])) (refuses short)
     ∷ both (rgb24 2147483648 0 []) (shown 2147483648 0 [] [])
     -- masks that compression 0 ignores; masks with gaps, and none for blue; a mask above the depth, and two alike
@@ -160,10 +165,11 @@ files =
     ∷ both (rle8 2 1 (1 ∷ 7 ∷ 0 ∷ 1 ∷ [])) (refuses badCode)
     ∷ both (rle8 2 2 (2 ∷ 7 ∷ 0 ∷ 2 ∷ 0 ∷ 1 ∷ 2 ∷ 9 ∷ [])) (refuses badCode)
     ∷ both (rle8 2 1 (0 ∷ 2 ∷ 1 ∷ 0 ∷ 1 ∷ 7 ∷ [])) (refuses badCode)
-    -- over the row's end: a pair, one behind a full row, a block, a block that lacks data too
+    -- over the row's end: a pair, one behind a full row, a block, one behind a full row, a block that lacks data too
     ∷ both (rle8 2 1 (3 ∷ 7 ∷ [])) (refuses pastRowEnd)
     ∷ both (rle8 2 2 (2 ∷ 7 ∷ 2 ∷ 9 ∷ [])) (refuses pastRowEnd)
     ∷ both (rle8 2 1 (0 ∷ 3 ∷ 5 ∷ 6 ∷ 7 ∷ 0 ∷ [])) (refuses pastRowEnd)
+    ∷ both (rle8 2 2 (2 ∷ 7 ∷ 0 ∷ 3 ∷ 5 ∷ 6 ∷ 7 ∷ 0 ∷ [])) (refuses pastRowEnd)
     ∷ both (rle8 2 1 (0 ∷ 3 ∷ 5 ∷ [])) (refuses pastRowEnd)
     -- a stream that ends early: at once, in a pair, in a row, behind a full row, in 00 00
     ∷ both (rle8 2 2 []) (refuses short)
