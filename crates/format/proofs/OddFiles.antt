@@ -171,7 +171,8 @@ files =
     ∷ both (rle8 2 1 (0 ∷ 3 ∷ 5 ∷ 6 ∷ 7 ∷ 0 ∷ [])) (refuses pastRowEnd)
     ∷ both (rle8 2 2 (2 ∷ 7 ∷ 0 ∷ 3 ∷ 5 ∷ 6 ∷ 7 ∷ 0 ∷ [])) (refuses pastRowEnd)
     ∷ both (rle8 2 1 (0 ∷ 3 ∷ 5 ∷ [])) (refuses pastRowEnd)
-    -- a stream that ends early: at once, in a pair, in a row, behind a full row, in 00 00
+    -- a stream that begins past the end, and one that ends early: at once, in a pair, in a row, behind a full row, in 00 00
+    ∷ both (head 1000 40 2 2 8 1 1 ++ (1 ∷ 2 ∷ 3 ∷ 4 ∷ [])) (refuses short)
     ∷ both (rle8 2 2 []) (refuses short)
     ∷ both (rle8 2 2 (2 ∷ [])) (refuses short)
     ∷ both (rle8 2 2 (1 ∷ 7 ∷ [])) (refuses short)

@@ -35,7 +35,7 @@ pub record Fields : Type 0 where
   pub offset : ℕ
   -- biSize; below 40 the fields stand where they stand, and the table begins among them
   pub headerSize : ℕ
-  -- biWidth, a LONG, as its 32 bits: no width is refused, so one with the top bit set is a count like any other, of columns that no file holds
+  -- biWidth, as its 32 bits: a LONG, but no width is refused, and only of the height is a sign spoken of, so one with the top bit set is a count too
   pub width : ℕ
   -- biHeight, as its 32 bits
   pub height : ℕ
@@ -157,10 +157,12 @@ headNeeds t = max (14 + t .headerSize + tableCount t * 4) (cond (eqb (t .compres
 unfoldable pub pixelNeeds : Fields → ℕ
 pixelNeeds t = t .offset + (shownHeight t - 1) * rowLength (t .width) (t .depth) + (t .width * t .depth + 7) / 8
 
--- "Nothing past the top row's last cell is read": of a picture without a cell no row and no code is, wherever the pixel offset points
+-- "Nothing past the top row's last cell is read": of a picture without a cell, by its width or its height, no row and no code is needed, wherever the
+-- pixel offset points
 abbrev pub noCell : Fields → Bool
 noCell t = eqb (t .width) 0 || eqb (shownHeight t) 0
 
+-- rows or stream, where there is a cell to show
 unfoldable pub body : List ℕ → Fields → Reading
 body file t =
     cond (noCell t) (picture file t (λ y x. index 0))
