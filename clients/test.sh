@@ -7,11 +7,13 @@ rt check bmp_writer
 bash clients/build.sh
 root=$PWD
 work=$(mktemp -d)
+gcc -std=c11 -Wall -Wextra -o "$work/tests_c" clients/c/test.c -Iclients/c target/staticlib/libcapi.a
 gcc -Wall -Wextra -o "$work/example_c" clients/c/example.c -Iclients/c target/staticlib/libcapi.a
 rustc --edition 2024 --test -A dead_code -o "$work/tests_rust" clients/rust/tests.rs -C link-arg=target/staticlib/libcapi.a
 rustc --edition 2024 -A dead_code -o "$work/example_rust" clients/rust/example.rs -C link-arg=target/staticlib/libcapi.a
 export BMP_WRITER_LIBRARY="$root/target/clients/libbmp_writer.so" PYTHONDONTWRITEBYTECODE=1 PYTHONPATH="$root/clients/python"
 export BMP_WRITER_PROGRAM="$root/target/bin/bmp_writer"
+"$work/tests_c"
 "$work/tests_rust"
 python3 clients/python/test_bmp_writer.py
 cd "$work"

@@ -95,11 +95,45 @@ typedef struct {
     uint64_t stride;     /* bytes from one row of the plane to the next */
 } bmp_source;
 
+/* 16 bytes. */
 typedef struct {
     uint64_t bytes;   /* bytes appended, or the bound; 0 with a refusal */
     uint32_t refusal; /* enum bmp_refusal */
     uint32_t format;  /* enum bmp_written_format; 0 with a refusal and from the size query */
 } bmp_answer;
+
+/* The places of all fields, checked where the language can. */
+#if defined(__cplusplus) && __cplusplus >= 201103L
+#define BMP_LAYOUT(fact) static_assert(fact, #fact)
+#elif defined(__STDC_VERSION__) && __STDC_VERSION__ >= 201112L
+#define BMP_LAYOUT(fact) _Static_assert(fact, #fact)
+#endif
+#ifdef BMP_LAYOUT
+BMP_LAYOUT(offsetof(bmp_options, top_down) == 0);
+BMP_LAYOUT(offsetof(bmp_options, minimal_palette) == 1);
+BMP_LAYOUT(offsetof(bmp_options, rle) == 2);
+BMP_LAYOUT(offsetof(bmp_options, embed_icc) == 3);
+BMP_LAYOUT(offsetof(bmp_options, has_bitfields) == 4);
+BMP_LAYOUT(offsetof(bmp_options, has_calibrated) == 5);
+BMP_LAYOUT(offsetof(bmp_options, bitfields_bpp) == 6);
+BMP_LAYOUT(offsetof(bmp_options, bitfields_masks) == 8);
+BMP_LAYOUT(offsetof(bmp_options, rendering_intent) == 24);
+BMP_LAYOUT(offsetof(bmp_options, endpoints) == 28);
+BMP_LAYOUT(offsetof(bmp_options, gamma) == 64);
+BMP_LAYOUT(sizeof(bmp_options) == 76);
+BMP_LAYOUT(offsetof(bmp_source, format) == 0);
+BMP_LAYOUT(offsetof(bmp_source, width) == 4);
+BMP_LAYOUT(offsetof(bmp_source, height) == 8);
+BMP_LAYOUT(offsetof(bmp_source, has_palette) == 12);
+BMP_LAYOUT(offsetof(bmp_source, has_icc) == 13);
+BMP_LAYOUT(offsetof(bmp_source, has_linked_icc) == 14);
+BMP_LAYOUT(offsetof(bmp_source, stride) == 16);
+BMP_LAYOUT(sizeof(bmp_source) == 24);
+BMP_LAYOUT(offsetof(bmp_answer, bytes) == 0);
+BMP_LAYOUT(offsetof(bmp_answer, refusal) == 8);
+BMP_LAYOUT(offsetof(bmp_answer, format) == 12);
+BMP_LAYOUT(sizeof(bmp_answer) == 16);
+#endif
 
 /* Appends the file at `offset` of `out`, which has `out_len` bytes. With a refusal no byte of `out` has changed;
  * with a file none outside the bytes answered. A palette entry is four bytes: red, green, blue, alpha. */

@@ -40,7 +40,8 @@ class Tests(unittest.TestCase):
 
     def test_masks(self):
         bmp_writer.check_masks(16, 0xF800, 0x7E0, 0x1F)
-        for number, masks in ((7, (16, 0x50000, 0, 0)), (8, (16, 0xA00, 0, 0)), (10, (16, 0, 0, 0, 0xFF00))):
+        for number, masks in ((7, (16, 0x50000, 0, 0)), (8, (16, 0xA00, 0, 0)), (8, (16, 0xA00, 0x50000, 0)), (7, (16, 0x50000, 0xA00, 0)),
+                              (8, (16, 0, 0xA00, 0x50000)), (7, (16, 0, 0x50000, 0xA00)), (10, (16, 0, 0, 0, 0xFF00))):
             with self.assertRaises(BmpError) as caught:
                 bmp_writer.check_masks(*masks)
             self.assertEqual(caught.exception.number, number)

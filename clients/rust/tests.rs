@@ -50,4 +50,7 @@ fn refusals() {
     assert_eq!(number(picture(BmpPixelFormat::Rgba, 1, 4, &[0; 4]), &several), 5);
     assert_eq!(masks.validate(), Ok(()));
     assert_eq!(BmpBitfields { r: 0xA00, ..masks }.validate().unwrap_err().to_string(), "8: masks: a mask's ones are not one run");
+    let refused = |r, g, b| BmpBitfields { bpp: 16, r, g, b, a: 0 }.validate().unwrap_err().number;
+    assert_eq!((refused(0xA00, 0x50000, 0), refused(0x50000, 0xA00, 0)), (8, 7));
+    assert_eq!((refused(0, 0xA00, 0x50000), refused(0, 0x50000, 0xA00)), (8, 7));
 }
