@@ -52,11 +52,11 @@ count-is bpp = go (eqb bpp 1) refl (eqb bpp 2) refl (eqb bpp 4) refl (eqb bpp 8)
 -- biClrUsed of a table, and without one
 used-is : (b : Bool) (i : Input) (bpp : ℕ) → (b ≡ false → 0 ≡ entriesOf i) → clrUsed bpp (tableFor b i) ≡ document.clrUsed bpp (entriesOf i)
 unfolding clrUsed document.clrUsed
-used-is true i bpp bare =
+used-is true i bpp empty =
     let m : entriesOf i % 4294967296 ≡ entriesOf i = mod-eq-of-lt (omega (arith, few-entries i)) in
     rw (count-is bpp, m)
-used-is false i bpp bare =
-    let z : entriesOf i ≡ 0 = sym (bare refl) in
+used-is false i bpp empty =
+    let z : entriesOf i ≡ 0 = sym (empty refl) in
     rw z (go (ltb 0 (document.paletteEntryCount bpp)))
   where
     go : (t : Bool) → _≡_ {A = ℕ} 0 (cond t 0 0)
@@ -86,9 +86,9 @@ no-table i e = rw (← e)
 table-written : (b : Bool) (i : Input) (out : List ℕ) → length (i .palette) % 4 ≡ 0 ⊎ (b ≡ false) → (b ≡ false → 0 ≡ entriesOf i)
     → writeTable (tableFor b i) out ≡ done (out ++ colourTable i)
 unfolding writeTable colourTable
-table-written true i out (inl whole) bare = table-is (i .palette) (entriesOf i) out whole
-table-written true i out (inr e) bare = absurd (false≢true (sym e))
-table-written false i out whole bare = ap done (sym (ap (λ t. out ++ t) (no-table i (bare refl)) ∙ append-nil out))
+table-written true i out (inl whole) empty = table-is (i .palette) (entriesOf i) out whole
+table-written true i out (inr e) empty = absurd (false≢true (sym e))
+table-written false i out whole empty = ap done (sym (ap (λ t. out ++ t) (no-table i (empty refl)) ∙ append-nil out))
 
 -- ---- the document's head, of a mode
 
@@ -191,13 +191,13 @@ module _ (i : Input) (out : List ℕ) (fileSize pixelBytes : ℕ) where
   masked-is direct =
       let masks = i .options .bitfields .masks in
       let d = i .options .bitfields .bpp in
-      let bare : 0 ≡ entriesOf i = no-entries i direct in
-      let used : 0 ≡ document.clrUsed d (entriesOf i) = used-is false i d (λ _. bare) in
+      let empty : 0 ≡ entriesOf i = no-entries i direct in
+      let used : 0 ≡ document.clrUsed d (entriesOf i) = used-is false i d (λ _. empty) in
       let first : List ℕ = firstIn Masked i pixelBytes fileSize in
       masks-written d masks _
       ∙ ap (λ o. o ++ maskTail masks) (v3-is out fileSize (headBytesIn Masked i) (i .source .width) (storedHeight i) d (maskCompression masks) 0 ∙ ap (λ u. out ++ (fileHeader fileSize (headBytesIn Masked i) ++ infoHeader 40 (i .source .width) (storedHeight i) d (maskCompression masks) 0 2835 2835 u)) used)
       ∙ append-assoc out first (maskTail masks)
-      ∙ ap (λ x. out ++ x) (sym (ap (λ t. first ++ maskTail masks ++ t) (no-table i bare) ∙ append-nil (first ++ maskTail masks)))
+      ∙ ap (λ x. out ++ x) (sym (ap (λ t. first ++ maskTail masks ++ t) (no-table i empty) ∙ append-nil (first ++ maskTail masks)))
 
   -- the masks of a long header
   mask-at : (k : ℕ) → k < 4 → at (longMasks (i .source .format)) k ≡ done (getD (longMasks (i .source .format)) k 0)
@@ -267,9 +267,9 @@ module _ (i : Input) (out : List ℕ) (fileSize pixelBytes : ℕ) where
           ∙ ap (λ u. out ++ (fileHeader fileSize (headBytesIn Profiled i) ++ infoHeader 124 (i .source .width) (storedHeight i) (bitsPerPixel f) (cond (isRgb565 f) 3 0) (rawBytes i) 2835 2835 u ++ joined parts)) used
           ∙ ap (λ x. out ++ (first ++ x)) (colours (longMasks f) space more (four-masks f) ∙ profile-fields (longMasks f) space (i .options .«rendering_intent») place n)))
 
-      tabled : isIndexed f ≡ true
+      with-table : isIndexed f ≡ true
           → writeDibHeaderV5IndexedWithProfile headed (i .source .width) (storedHeight i) (bitsPerPixel f) (rawBytes i) (clrUsed (bitsPerPixel f) (tableFor true i)) space (i .options .«rendering_intent») place n ≡ out ++ (first ++ rest)
-      tabled b =
+      with-table b =
           let c : _≡_ {A = ℕ} 0 (cond (isRgb565 f) 3 0) = sym (ap (λ t. cond t 3 0) (indexed-is f b .0)) in
           let used = used-is true i (bitsPerPixel f) (λ x. absurd (false≢true (sym x))) in
           let parts : List (List ℕ) = replicate 16 0 ∷ toLeBytes 4 space ∷ more in
@@ -284,8 +284,8 @@ module _ (i : Input) (out : List ℕ) (fileSize pixelBytes : ℕ) where
           (done (writeDibHeaderV5IndexedWithProfile headed (i .source .width) (storedHeight i) (bitsPerPixel f) (rawBytes i) (clrUsed (bitsPerPixel f) (tableFor b i)) space (i .options .«rendering_intent») place n))
           (writeDibHeaderV5WithProfile headed (i .source .width) (storedHeight i) (bitsPerPixel f) (rawBytes i) (cond (isRgb565 f) 3 0) (longMasks f) space (i .options .«rendering_intent») place n) >>= writeTable (tableFor b i))
           ≡ done (out ++ (first ++ rest ++ colourTable i))
-      go true e four bare = rw (tabled e) (table-written true i (out ++ (first ++ rest)) four bare ∙ ap done (append-assoc out (first ++ rest) (colourTable i)))
-      go false e four bare = rw (direct e) (table-written false i (out ++ (first ++ rest)) four bare ∙ ap done (append-assoc out (first ++ rest) (colourTable i)))
+      go true e four empty = rw (with-table e) (table-written true i (out ++ (first ++ rest)) four empty ∙ ap done (append-assoc out (first ++ rest) (colourTable i)))
+      go false e four empty = rw (direct e) (table-written false i (out ++ (first ++ rest)) four empty ∙ ap done (append-assoc out (first ++ rest) (colourTable i)))
 
   -- a stored height's amount is the height
   height-of : 0 < i .source .height → i .source .height < 2 ^ 31 → unsignedAbs (storedHeight i) ≡ i .source .height
@@ -327,21 +327,21 @@ module _ (i : Input) (out : List ℕ) (fileSize pixelBytes : ℕ) where
       short : (bpp : ℕ) → 0 ≡ entriesOf i
           → writeDibHeaderV3 headed w (storedHeight i) bpp 0 0
           ≡ out ++ (fileHeader fileSize o ++ infoHeader 40 w (storedHeight i) bpp 0 0 2835 2835 (document.clrUsed bpp (entriesOf i)) ++ [] ++ colourTable i)
-      short bpp bare =
+      short bpp empty =
           let first : ℕ → List ℕ = λ u. fileHeader fileSize o ++ infoHeader 40 w (storedHeight i) bpp 0 0 2835 2835 u in
-          let used : 0 ≡ document.clrUsed bpp (entriesOf i) = used-is false i bpp (λ _. bare) in
+          let used : 0 ≡ document.clrUsed bpp (entriesOf i) = used-is false i bpp (λ _. empty) in
           v3-is out fileSize o w (storedHeight i) bpp 0 0
           ∙ ap (λ u. out ++ first u) used
-          ∙ ap (λ x. out ++ x) (sym (ap (λ t. first (document.clrUsed bpp (entriesOf i)) ++ [] ++ t) (no-table i bare) ∙ append-nil (first (document.clrUsed bpp (entriesOf i)) ++ []) ∙ append-nil (first (document.clrUsed bpp (entriesOf i)))))
+          ∙ ap (λ x. out ++ x) (sym (ap (λ t. first (document.clrUsed bpp (entriesOf i)) ++ [] ++ t) (no-table i empty) ∙ append-nil (first (document.clrUsed bpp (entriesOf i)) ++ []) ∙ append-nil (first (document.clrUsed bpp (entriesOf i)))))
 
       quads : isIndexed (i .source .format) ≡ true → (length (i .palette) % 4 ≡ 0) ⊎ (isIndexed (i .source .format) ≡ false) → length (i .palette) % 4 ≡ 0
       quads e (inl h) = h
       quads e (inr h) = absurd (false≢true (sym h ∙ e))
 
-      tabled : (bpp : ℕ) → length (i .palette) % 4 ≡ 0
+      with-table : (bpp : ℕ) → length (i .palette) % 4 ≡ 0
           → writeDibHeaderV3Indexed headed w (storedHeight i) bpp 0 (paletteIn i) (entriesOf i)
           ≡ done (out ++ (fileHeader fileSize o ++ infoHeader 40 w (storedHeight i) bpp 0 0 2835 2835 (document.clrUsed bpp (entriesOf i)) ++ [] ++ colourTable i))
-      tabled bpp four =
+      with-table bpp four =
           let first : List ℕ = fileHeader fileSize o ++ infoHeader 40 w (storedHeight i) bpp 0 0 2835 2835 (document.clrUsed bpp (entriesOf i)) in
           rw (full-used i bpp, v3-is out fileSize o w (storedHeight i) bpp 0 (document.clrUsed bpp (entriesOf i)))
           (table-is (i .palette) (entriesOf i) (out ++ first) four ∙ ap done (append-assoc out first (colourTable i) ∙ ap (λ x. out ++ (x ++ colourTable i)) (sym (append-nil first))))
@@ -366,6 +366,6 @@ module _ (i : Input) (out : List ℕ) (fileSize pixelBytes : ℕ) where
 
       go : (f : BmpPixelFormat) → i .source .format ≡ f → writeHeader (plainHeadFor f i) headed w (storedHeight i) o pixelBytes ≡ done (out ++ headAt f)
       go = by-head (λ f. i .source .format ≡ f → writeHeader (plainHeadFor f i) headed w (storedHeight i) o pixelBytes ≡ done (out ++ headAt f))
-          (λ f a b m e. rw (a, b) (tabled (bitsPerPixel f) (quads (ap isIndexed e ∙ a) whole)))
+          (λ f a b m e. rw (a, b) (with-table (bitsPerPixel f) (quads (ap isIndexed e ∙ a) whole)))
           rgb565
           (λ f a b e. rw (a, b) (ap done (short (bitsPerPixel f) (no-entries i (ap isIndexed e ∙ a)))))

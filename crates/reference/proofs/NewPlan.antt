@@ -335,11 +335,11 @@ requested-is i =
         rw (given-some a m, given-some b (i .options .«calibrated_rgb»), v5 l e o, bool a, bool b, bool (profileMode l e o), add-is 64 (one a) (one b) (omega (arith, few a, few b)), add-is 64 (one a + one b) (one (profileMode l e o)) (omega (arith, few a, few b, few (profileMode l e o))))
 
 module _ (i : Input) (ok : Typed i) (domain : Domain i) where
-  abbrev dims : List (Bool × Refusal)
-  dims = dimensionRows (i .source .width) (i .source .height)
+  abbrev dimensions : List (Bool × Refusal)
+  dimensions = dimensionRows (i .source .width) (i .source .height)
 
-  abbrev pals : List (Bool × Refusal)
-  pals = paletteRows (formats.isIndexed (i .source .format)) (i .source .«has_palette») (length (i .palette))
+  abbrev palettes : List (Bool × Refusal)
+  palettes = paletteRows (formats.isIndexed (i .source .format)) (i .source .«has_palette») (length (i .palette))
 
   abbrev modes : List (Bool × Refusal)
   modes = modeRows (i .options .«has_bitfields») (i .options .«has_calibrated_rgb») (profileMode (i .source .«has_linked_icc») (i .source .«has_icc») (i .options .«embed_icc»))
@@ -351,29 +351,29 @@ module _ (i : Input) (ok : Typed i) (domain : Domain i) where
   channels = givenMasksRows (i .source) (i .options)
 
   -- what stops among the first rows stops the plan
-  first-two : (why : Refusal) → firstOf (dims ++ pals) ≡ Refused why → firstNumber (planRows maxFile i) ≡ numberOf why
+  first-two : (why : Refusal) → firstOf (dimensions ++ palettes) ≡ Refused why → firstNumber (planRows maxFile i) ≡ numberOf why
   unfolding planRows checkRows
   first-two why e =
       ap checkNumber
-      (first-stop (dims ++ pals ++ modes ++ channels ++ planes) ((fileTooLarge maxFile i, FileTooLarge) ∷ []) why
-      (first-stop (dims ++ pals ++ modes ++ channels) planes why (first-stop (dims ++ pals ++ modes) channels why (first-stop (dims ++ pals) modes why e))))
+      (first-stop (dimensions ++ palettes ++ modes ++ channels ++ planes) ((fileTooLarge maxFile i, FileTooLarge) ∷ []) why
+      (first-stop (dimensions ++ palettes ++ modes ++ channels) planes why (first-stop (dimensions ++ palettes ++ modes) channels why (first-stop (dimensions ++ palettes) modes why e))))
 
   -- 1, and 2 that does not apply
-  dims-follow : (k : Run Plan) → Follows dims (failIf (rows.zeroDimension (i .source .width) (i .source .height)) zeroDimension >> k) k
+  dimensions-follow : (k : Run Plan) → Follows dimensions (failIf (rows.zeroDimension (i .source .width) (i .source .height)) zeroDimension >> k) k
   unfolding dimensionRows
-  dims-follow k =
+  dimensions-follow k =
       let zero = rows.zeroDimension (i .source .width) (i .source .height) in
       let large = dimensionTooLarge (i .source .width) (i .source .height) in
       follow.then ((zero, ZeroDimension) ∷ []) ((large, DimensionTooLarge) ∷ []) _ k k (follow.row-fails zero ZeroDimension zeroDimension k refl) (λ p. go large refl (follow.row-passed zero ZeroDimension p))
     where
       go : (b : Bool) → dimensionTooLarge (i .source .width) (i .source .height) ≡ b → rows.zeroDimension (i .source .width) (i .source .height) ≡ false → Follows ((b, DimensionTooLarge) ∷ []) k k
       go false e z = follow.row-passes false DimensionTooLarge k refl
-      go true e z = absurd (domain .not-2 (first-two DimensionTooLarge (first-stop dims pals DimensionTooLarge (rw (z, e)))))
+      go true e z = absurd (domain .not-2 (first-two DimensionTooLarge (first-stop dimensions palettes DimensionTooLarge (rw (z, e)))))
 
   -- 3, and 4 that does not apply
-  pals-follow : firstOf dims ≡ Passed → (k : Run Plan) → Follows pals (failIf (isIndexed (i .source .format) && not (isSome (sourceOf i .palette))) requiresPalette >> k) k
+  palettes-follow : firstOf dimensions ≡ Passed → (k : Run Plan) → Follows palettes (failIf (isIndexed (i .source .format) && not (isSome (sourceOf i .palette))) requiresPalette >> k) k
   unfolding paletteRows sourceOf
-  pals-follow passed k =
+  palettes-follow passed k =
       let missing = paletteMissing (formats.isIndexed (i .source .format)) (i .source .«has_palette») in
       let ragged = paletteNotQuads (formats.isIndexed (i .source .format)) (length (i .palette)) in
       rw (tables (i .source .format) .indexed, given-some (i .source .«has_palette») (paletteIn i))
@@ -381,7 +381,7 @@ module _ (i : Input) (ok : Typed i) (domain : Domain i) where
     where
       go : (b : Bool) → paletteNotQuads (formats.isIndexed (i .source .format)) (length (i .palette)) ≡ b → paletteMissing (formats.isIndexed (i .source .format)) (i .source .«has_palette») ≡ false → Follows ((b, PaletteNotQuads) ∷ []) k k
       go false e z = follow.row-passes false PaletteNotQuads k refl
-      go true e z = absurd (domain .not-4 (first-two PaletteNotQuads (first-pass dims pals passed ∙ rw (z, e))))
+      go true e z = absurd (domain .not-4 (first-two PaletteNotQuads (first-pass dimensions palettes passed ∙ rw (z, e))))
 
   -- what is left after 5
   abbrev chosen : Run Plan
@@ -417,7 +417,7 @@ module _ (i : Input) (ok : Typed i) (domain : Domain i) where
       follow.on planes (rowsIn pack i) (done (rowsFor pack i)) (sizedIn (modeIn i) i) (subst (λ r. Follows r (rowsIn pack i) (done (rowsFor pack i))) p (new-rows i pack (ok .width) (domain .product) few (sizes .bits)))
 
   -- an indexed source that row 3 lets through has its palette
-  palette-of : firstOf pals ≡ Passed → formats.isIndexed (i .source .format) ≡ true → i .source .«has_palette» ≡ true
+  palette-of : firstOf palettes ≡ Passed → formats.isIndexed (i .source .format) ≡ true → i .source .«has_palette» ≡ true
   unfolding paletteRows
   palette-of p e = go (i .source .«has_palette») refl
     where
@@ -433,7 +433,7 @@ module _ (i : Input) (ok : Typed i) (domain : Domain i) where
   unfolding checkRows paletteRows
   quads p =
       let f = formats.isIndexed (i .source .format) in
-      let four = first-parts dims pals (first-parts (dims ++ pals) modes (first-parts (dims ++ pals ++ modes) channels (first-parts (dims ++ pals ++ modes ++ channels) planes p .0) .0) .0) .1 in
+      let four = first-parts dimensions palettes (first-parts (dimensions ++ palettes) modes (first-parts (dimensions ++ palettes ++ modes) channels (first-parts (dimensions ++ palettes ++ modes ++ channels) planes p .0) .0) .0) .1 in
       go f refl (row-parts (paletteNotQuads f (length (i .palette))) PaletteNotQuads _ (row-parts (paletteMissing f (i .source .«has_palette»)) PaletteMissing _ four .1) .0)
     where
       go : (b : Bool) → formats.isIndexed (i .source .format) ≡ b → (b && not (eqb (length (i .palette) % 4) 0)) ≡ false → (length (i .palette) % 4 ≡ 0) ⊎ (formats.isIndexed (i .source .format) ≡ false)
@@ -446,9 +446,9 @@ module _ (i : Input) (ok : Typed i) (domain : Domain i) where
   new-plan =
       let three : Run Plan = exclusive chosen in
       let two : Run Plan = failIf (isIndexed (i .source .format) && not (isSome (sourceOf i .palette))) requiresPalette >> three in
-      follow.then (dims ++ pals ++ modes ++ channels) planes _ _ _
-      (follow.then (dims ++ pals ++ modes) channels _ chosen _
-      (follow.then (dims ++ pals) modes _ three _ (follow.then dims pals _ two _ (dims-follow two) (λ p. pals-follow p three)) (λ _. modes-follow chosen))
-      (λ p. masks-follow (palette-of (first-parts dims pals (first-parts (dims ++ pals) modes p .0) .1))))
-      (λ p. let given = given-masks (i .source) (i .options) (first-parts (dims ++ pals ++ modes) channels p .1) in
+      follow.then (dimensions ++ palettes ++ modes ++ channels) planes _ _ _
+      (follow.then (dimensions ++ palettes ++ modes) channels _ chosen _
+      (follow.then (dimensions ++ palettes) modes _ three _ (follow.then dimensions palettes _ two _ (dimensions-follow two) (λ p. palettes-follow p three)) (λ _. modes-follow chosen))
+      (λ p. masks-follow (palette-of (first-parts dimensions palettes (first-parts (dimensions ++ palettes) modes p .0) .1))))
+      (λ p. let given = given-masks (i .source) (i .options) (first-parts (dimensions ++ palettes ++ modes) channels p .1) in
       planes-follow (pack-sizes i (λ e. given e .0) (λ e. given e .1)))

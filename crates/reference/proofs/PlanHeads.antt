@@ -75,15 +75,15 @@ entry-bytes n h =
 
 table-bytes : (b : Bool) (i : Input) → (b ≡ false → 0 ≡ entriesOf i) → tableBytes (tableFor b i) ≡ done (entriesOf i * 4)
 unfolding tableBytes
-table-bytes true i bare = entry-bytes (entriesOf i) (few-entries i)
-table-bytes false i bare = let z : entriesOf i ≡ 0 = sym (bare refl) in rw z
+table-bytes true i empty = entry-bytes (entriesOf i) (few-entries i)
+table-bytes false i empty = let z : entriesOf i ≡ 0 = sym (empty refl) in rw z
 
 -- a header of n bytes with its table
 long-len : (n : ℕ) (b : Bool) (i : Input) → n ≤ 124 → (b ≡ false → 0 ≡ entriesOf i) → (tableBytes (tableFor b i) >>= add 32 n >>= add 32 14) ≡ done (14 + n + 4 * entriesOf i)
-long-len n b i h bare =
+long-len n b i h empty =
     let small = few-entries i in
     let e : 14 + (n + entriesOf i * 4) ≡ 14 + n + 4 * entriesOf i = omega arith in
-    rw (table-bytes b i bare, add-is 32 n (entriesOf i * 4) (omega (arith, h, small)), add-is 32 14 (n + entriesOf i * 4) (omega (arith, h, small)), e)
+    rw (table-bytes b i empty, add-is 32 n (entriesOf i * 4) (omega (arith, h, small)), add-is 32 14 (n + entriesOf i * 4) (omega (arith, h, small)), e)
 
 pub tail-small : (masks : List ℕ) → length (maskTail masks) ≤ 16
 tail-small masks = omega (arith, mask-tail masks (hasAlphaMask masks) refl, choice-le (hasAlphaMask masks) 16 12 16 (omega arith) (omega arith))
