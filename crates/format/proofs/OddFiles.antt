@@ -80,6 +80,8 @@ files =
     -- a header of 108 bytes without its last byte, and whole; one of 65,536 + 40
     ∷ both (head 122 108 1 0 24 0 0 ++ replicate 67 99) (refuses short)
     ∷ both (head 122 108 1 0 24 0 0 ++ replicate 68 99) (shown 1 0 [] [])
+    -- a header of 124 bytes with the place and size of an embedded profile that the file ends before
+    ∷ both (head 138 124 1 0 24 0 0 ++ replicate 16 99 ++ le32 0x4D424544 ++ replicate 52 99 ++ le32 124 ++ le32 100 ++ le32 0) (shown 1 0 [] [])
     ∷ both (head 54 65576 1 0 24 0 0) (refuses short)
     -- a header size of 12: the fields stand where they stand, the table from byte 26
     ∷ both (head 54 12 2 1 1 0 1 ++ (0x40 ∷ [])) (shown 2 1 (rgb 1 99 99 ∷ []) ((index 0 ∷ index 1 ∷ []) ∷ []))

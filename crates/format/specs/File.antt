@@ -62,9 +62,11 @@ budget limit i = min (rawBytes i) (limit + 1 - headBytes i)
 unfoldable pub streamUsed : ℕ → Input → Bool
 streamUsed limit i = rlePlanned i && ltb (length (streamOf i)) (budget limit i)
 
+-- the stored rows of the plane
 unfoldable pub storedRowsOf : Input → List ℕ
 storedRowsOf i = storedRows (packIn i) (i .source .width) (i .source .height) (i .options .«top_down») (i .plane) (i .source .stride)
 
+-- what stands behind the head: the stream where it is used, and else the stored rows
 unfoldable pub pixels : ℕ → Input → List ℕ
 pixels limit i = cond (streamUsed limit i) (streamOf i) (storedRowsOf i)
 
@@ -74,6 +76,7 @@ pixels limit i = cond (streamUsed limit i) (streamOf i) (storedRowsOf i)
 unfoldable pub tableEntry : List ℕ → ℕ → List ℕ
 tableEntry palette k = getD palette (k * 4 + 2) 0 ∷ getD palette (k * 4 + 1) 0 ∷ getD palette (k * 4) 0 ∷ 0 ∷ []
 
+-- behind the info header and its masks
 unfoldable pub colourTable : Input → List ℕ
 colourTable i = cat (tableEntry (i .palette)) (entriesOf i)
 
@@ -104,9 +107,11 @@ headOf i compression imageSize xPels yPels fileSize =
 
 -- ---- the file
 
+-- bfSize, and the bytes that are reported
 unfoldable pub fileSize : ℕ → Input → ℕ
 fileSize limit i = headBytes i + length (pixels limit i) + length (tailOf i)
 
+-- "The head is everything before the pixels"; "profile after the pixels"
 unfoldable pub fileOf : ℕ → Input → List ℕ
 fileOf limit i = headOf i (compressionOf limit i) (imageSize i) pelsPerMeter pelsPerMeter (fileSize limit i) ++ pixels limit i ++ tailOf i
 

@@ -28,6 +28,7 @@ use Rattle.format.specs.Headers.{dwords, v4Fields, v5Fields, longs}
 
 -- ---- modes
 
+-- "masks, calibrated colour, profile": of a call that 5 lets pass at most one is given, and without one the head is plain
 unfoldable pub modeOf : EncodeSource → EncodeOptions → Mode
 modeOf s o =
     cond (o .«has_bitfields») Masked
@@ -93,6 +94,7 @@ plainPack source.Indexed1 = pack.Indexed 1
 abbrev pub maskPack : BmpPixelFormat → ℕ → List ℕ → RowPack
 maskPack f depth masks = pack.Masks (bytesPerPixel f) (blueFirst f) (channelsOf depth masks)
 
+-- the masks decide where they are given, and else the source
 unfoldable pub packOf : EncodeSource → EncodeOptions → RowPack
 packOf s o = cond (o .«has_bitfields») (maskPack (s .format) (o .bitfields .bpp) (o .bitfields .masks)) (plainPack (s .format))
 
@@ -170,6 +172,7 @@ abbrev pub isStream : Coding → Bool
 isStream (Stream rle) = true
 isStream Nothing = false
 
+-- whether a source's indices have one
 abbrev pub coded : BmpPixelFormat → Bool
 coded f = isStream (codingAt (bitsPerPixel f))
 
@@ -177,6 +180,7 @@ coded f = isStream (codingAt (bitsPerPixel f))
 unfoldable pub wantsRle : EncodeSource → EncodeOptions → Bool
 wantsRle s o = isPlain (modeOf s o) && coded (s .format) && o .rle && not (o .«top_down»)
 
+-- what is tried before the rows are stored
 unfoldable pub codingOf : EncodeSource → EncodeOptions → Coding
 codingOf s o = cond (wantsRle s o) (codingAt (bitsPerPixel (s .format))) Nothing
 

@@ -135,6 +135,7 @@ unfoldable pub paletteOf : List ℕ → Fields → List Cell
 paletteOf file t =
     tab (λ k. rgb (getD file (14 + t .headerSize + k * 4 + 2) 0) (getD file (14 + t .headerSize + k * 4 + 1) 0) (getD file (14 + t .headerSize + k * 4) 0)) (tableCount t)
 
+-- the size, the palette and every cell, which is given by its shown row and its column
 unfoldable pub picture : List ℕ → Fields → (ℕ → ℕ → Cell) → Reading
 picture file t cell =
     shows (record {
@@ -170,6 +171,7 @@ body file t =
     (streamed file t (decode (t .depth) (t .width) (drop (t .offset) file) (shownHeight t - 1)))
     (cond (ltb (length file) (pixelNeeds t)) (refuses short) (picture file t (λ y x. plainCell file t (storedAt t y) x))))
 
+-- "It refuses, naming the cause and showing nothing"
 unfoldable pub readFields : Reader → List ℕ → Fields → Reading
 readFields r file t =
     cond (not (knowsDepth r (t .depth))) (refuses unknownDepth)
