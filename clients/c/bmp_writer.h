@@ -1,4 +1,5 @@
-/* A BMP writer whose every byte is proved. Link with libcapi.a (rt staticlib capi).
+/* A BMP writer whose every byte is proved. Link with libcapi.a (rt staticlib capi), or with libbmp_writer.so
+ * (clients/build.sh, which also writes a file for pkg-config). The header is for C99 and C++98 and later.
  *
  * The two calls read a picture from memory that the caller lends and never allocate. Every pointer goes with its
  * length in bytes; NULL with length 0 is allowed. `out` overlaps no input. A bool is 0 or 1. */
@@ -12,6 +13,9 @@
 #ifdef __cplusplus
 extern "C" {
 #endif
+
+/* The version of the library, of this header and of the clients; the file VERSION has the same. */
+#define BMP_WRITER_VERSION "1.0.0"
 
 /* The layout of the lent plane. Rows go from the top, `stride` bytes from one to the next. */
 enum bmp_source_format {
@@ -43,7 +47,7 @@ enum bmp_written_format {
     BMP_WRITTEN_ALPHA_BITFIELDS = 11
 };
 
-/* Why a call is refused; the first that applies is answered, 255 before all others. */
+/* Why a call is refused; the first that applies is answered, 255 before all others. `bmp_refusal_text` has the words. */
 enum bmp_refusal {
     BMP_OK = 0,
     BMP_ZERO_DIMENSION = 1,      /* width or height is 0 */
@@ -80,9 +84,22 @@ typedef struct {
     uint32_t gamma[3];           /* bV4GammaRed, Green, Blue, as 16.16 [0] */
 } bmp_options;
 
-/* The defaults of the original encoder. */
-#define BMP_OPTIONS_DEFAULT \
+/* The defaults of the original encoder, as an initialiser alone: strict C takes no other for a static object. */
+#define BMP_OPTIONS_STATIC \
     { false, false, true, true, false, false, 0, { 0, 0, 0, 0 }, 4, { 0, 0, 0, 0, 0, 0, 0, 0, 0 }, { 0, 0, 0 } }
+
+/* The same as a value, to initialise with, to assign and to pass. */
+#if !defined(__cplusplus)
+#define BMP_OPTIONS_DEFAULT ((bmp_options)BMP_OPTIONS_STATIC)
+#elif __cplusplus >= 201103L
+#define BMP_OPTIONS_DEFAULT (bmp_options BMP_OPTIONS_STATIC)
+#else
+static inline bmp_options bmp_options_default(void) {
+    bmp_options options = BMP_OPTIONS_STATIC;
+    return options;
+}
+#define BMP_OPTIONS_DEFAULT (bmp_options_default())
+#endif
 
 /* 24 bytes. */
 typedef struct {
@@ -102,38 +119,44 @@ typedef struct {
     uint32_t format;  /* enum bmp_written_format; 0 with a refusal and from the size query */
 } bmp_answer;
 
-/* The places of all fields, checked where the language can. */
+/* The places of all fields and the sizes. A compiler that lays the structs out otherwise refuses this header; in
+ * languages before static assertions it does so because an array of a negative size is an error. */
 #if defined(__cplusplus) && __cplusplus >= 201103L
-#define BMP_LAYOUT(fact) static_assert(fact, #fact)
+#define BMP_FACT(name, fact) static_assert(fact, #fact)
 #elif defined(__STDC_VERSION__) && __STDC_VERSION__ >= 201112L
-#define BMP_LAYOUT(fact) _Static_assert(fact, #fact)
+#define BMP_FACT(name, fact) _Static_assert(fact, #fact)
+#else
+#define BMP_FACT(name, fact) typedef char name[(fact) ? 1 : -1]
 #endif
-#ifdef BMP_LAYOUT
-BMP_LAYOUT(offsetof(bmp_options, top_down) == 0);
-BMP_LAYOUT(offsetof(bmp_options, minimal_palette) == 1);
-BMP_LAYOUT(offsetof(bmp_options, rle) == 2);
-BMP_LAYOUT(offsetof(bmp_options, embed_icc) == 3);
-BMP_LAYOUT(offsetof(bmp_options, has_bitfields) == 4);
-BMP_LAYOUT(offsetof(bmp_options, has_calibrated) == 5);
-BMP_LAYOUT(offsetof(bmp_options, bitfields_bpp) == 6);
-BMP_LAYOUT(offsetof(bmp_options, bitfields_masks) == 8);
-BMP_LAYOUT(offsetof(bmp_options, rendering_intent) == 24);
-BMP_LAYOUT(offsetof(bmp_options, endpoints) == 28);
-BMP_LAYOUT(offsetof(bmp_options, gamma) == 64);
-BMP_LAYOUT(sizeof(bmp_options) == 76);
-BMP_LAYOUT(offsetof(bmp_source, format) == 0);
-BMP_LAYOUT(offsetof(bmp_source, width) == 4);
-BMP_LAYOUT(offsetof(bmp_source, height) == 8);
-BMP_LAYOUT(offsetof(bmp_source, has_palette) == 12);
-BMP_LAYOUT(offsetof(bmp_source, has_icc) == 13);
-BMP_LAYOUT(offsetof(bmp_source, has_linked_icc) == 14);
-BMP_LAYOUT(offsetof(bmp_source, stride) == 16);
-BMP_LAYOUT(sizeof(bmp_source) == 24);
-BMP_LAYOUT(offsetof(bmp_answer, bytes) == 0);
-BMP_LAYOUT(offsetof(bmp_answer, refusal) == 8);
-BMP_LAYOUT(offsetof(bmp_answer, format) == 12);
-BMP_LAYOUT(sizeof(bmp_answer) == 16);
-#endif
+#define BMP_PLACE(type, field, place) BMP_FACT(type##_##field##_place, offsetof(type, field) == place)
+#define BMP_BYTES(type, bytes) BMP_FACT(type##_bytes, sizeof(type) == bytes)
+BMP_PLACE(bmp_options, top_down, 0);
+BMP_PLACE(bmp_options, minimal_palette, 1);
+BMP_PLACE(bmp_options, rle, 2);
+BMP_PLACE(bmp_options, embed_icc, 3);
+BMP_PLACE(bmp_options, has_bitfields, 4);
+BMP_PLACE(bmp_options, has_calibrated, 5);
+BMP_PLACE(bmp_options, bitfields_bpp, 6);
+BMP_PLACE(bmp_options, bitfields_masks, 8);
+BMP_PLACE(bmp_options, rendering_intent, 24);
+BMP_PLACE(bmp_options, endpoints, 28);
+BMP_PLACE(bmp_options, gamma, 64);
+BMP_BYTES(bmp_options, 76);
+BMP_PLACE(bmp_source, format, 0);
+BMP_PLACE(bmp_source, width, 4);
+BMP_PLACE(bmp_source, height, 8);
+BMP_PLACE(bmp_source, has_palette, 12);
+BMP_PLACE(bmp_source, has_icc, 13);
+BMP_PLACE(bmp_source, has_linked_icc, 14);
+BMP_PLACE(bmp_source, stride, 16);
+BMP_BYTES(bmp_source, 24);
+BMP_PLACE(bmp_answer, bytes, 0);
+BMP_PLACE(bmp_answer, refusal, 8);
+BMP_PLACE(bmp_answer, format, 12);
+BMP_BYTES(bmp_answer, 16);
+#undef BMP_BYTES
+#undef BMP_PLACE
+#undef BMP_FACT
 
 /* Appends the file at `offset` of `out`, which has `out_len` bytes. With a refusal no byte of `out` has changed;
  * with a file none outside the bytes answered. A palette entry is four bytes: red, green, blue, alpha. */
@@ -149,6 +172,31 @@ bmp_answer bmp_encoded_size_bound(bmp_source source, bmp_options options, const 
 
 /* 0, or 6 to 10. */
 uint32_t bmp_check_masks(uint16_t bpp, uint32_t red, uint32_t green, uint32_t blue, uint32_t alpha);
+
+/* A refusal's number in words. */
+static inline const char *bmp_refusal_text(uint32_t number) {
+    switch (number) {
+    case BMP_OK: return "not refused";
+    case BMP_ZERO_DIMENSION: return "width or height is 0";
+    case BMP_DIMENSION_TOO_LARGE: return "width or height is over 2147483647";
+    case BMP_PALETTE_MISSING: return "an indexed format needs a palette";
+    case BMP_PALETTE_NOT_QUADS: return "the palette's bytes are not a multiple of 4";
+    case BMP_SEVERAL_MODES: return "more than one of masks, calibrated colour and a profile";
+    case BMP_MASK_DEPTH: return "the masks' depth is neither 16 nor 32";
+    case BMP_MASK_ABOVE_DEPTH: return "a mask has a bit above the depth";
+    case BMP_MASK_NOT_ONE_RUN: return "a mask's ones are not one run";
+    case BMP_MASK_OVERLAP: return "a mask shares a bit with an earlier one";
+    case BMP_NO_COLOUR_MASK: return "the masks of red, green and blue are all 0";
+    case BMP_MASK_SOURCE: return "masks are for Rgba, Rgb24, Bgra and Bgr24 alone";
+    case BMP_PLANE_TOO_SHORT: return "the plane is shorter than stride times height";
+    case BMP_STRIDE_TOO_SHORT: return "the stride is below width times the bytes of a pixel";
+    case BMP_FILE_TOO_LARGE: return "the file would be over 4294967295 bytes";
+    case BMP_BUFFER_TOO_SHORT: return "the buffer is shorter than the file's bound";
+    case BMP_STREAM_OVER_BUDGET: return "neither the stream nor the plain file fits in 4294967295 bytes";
+    case BMP_UNKNOWN_FORMAT: return "the format's number is none of those listed";
+    default: return "unknown refusal number";
+    }
+}
 
 #ifdef __cplusplus
 }

@@ -1,6 +1,10 @@
 /* Writes a smile-shaped surface of 200 x 200 shades to grid.bmp:
  *   rt staticlib capi
- *   cc -o example clients/c/example.c -Iclients/c target/staticlib/libcapi.a && ./example */
+ *   cc -o example clients/c/example.c -Iclients/c target/staticlib/libcapi.a && ./example
+ * or, with the shared library:
+ *   bash clients/build.sh
+ *   export PKG_CONFIG_PATH=target/clients/pkgconfig LD_LIBRARY_PATH=target/clients
+ *   cc -o example clients/c/example.c $(pkg-config --cflags --libs bmp_writer) && ./example */
 #include "bmp_writer.h"
 
 #include <stdio.h>
@@ -10,6 +14,12 @@ enum { SIDE = 200 };
 
 /* Red, green and blue of every 64th palette entry, from dark violet to yellow. */
 static const int stops[5][3] = { { 68, 1, 84 }, { 59, 82, 139 }, { 33, 145, 140 }, { 94, 201, 98 }, { 253, 231, 37 } };
+
+/* Says why there is no file. The status is 1 and not the number, so that it means the same for every program. */
+static int refused(bmp_answer answer) {
+    fprintf(stderr, "refused, number %lu: %s\n", (unsigned long)answer.refusal, bmp_refusal_text(answer.refusal));
+    return 1;
+}
 
 int main(void) {
     static uint8_t plane[SIDE * SIDE];
@@ -27,17 +37,23 @@ int main(void) {
     bmp_options options = BMP_OPTIONS_DEFAULT;
     bmp_answer bound =
         bmp_encoded_size_bound(source, options, plane, sizeof plane, palette, sizeof palette, NULL, 0, NULL, 0);
-    if (bound.refusal != BMP_OK) return (int)bound.refusal;
+    if (bound.refusal != BMP_OK) return refused(bound);
 
     uint8_t *out = malloc(bound.bytes);
-    if (out == NULL) return 1;
+    if (out == NULL) {
+        perror("malloc");
+        return 1;
+    }
     bmp_answer answer = bmp_encode_into(source, options, plane, sizeof plane, palette, sizeof palette, NULL, 0,
                                         NULL, 0, out, bound.bytes, 0);
-    if (answer.refusal != BMP_OK) return (int)answer.refusal;
+    if (answer.refusal != BMP_OK) return refused(answer);
 
     FILE *file = fopen("grid.bmp", "wb");
-    if (file == NULL || fwrite(out, 1, answer.bytes, file) != answer.bytes || fclose(file) != 0) return 1;
-    printf("format %u, %llu bytes\n", answer.format, (unsigned long long)answer.bytes);
+    if (file == NULL || fwrite(out, 1, answer.bytes, file) != answer.bytes || fclose(file) != 0) {
+        perror("grid.bmp");
+        return 1;
+    }
+    printf("format %lu, %llu bytes\n", (unsigned long)answer.format, (unsigned long long)answer.bytes);
     free(out);
     return 0;
 }

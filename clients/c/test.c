@@ -1,11 +1,9 @@
-/* Tests of the C interface: run by clients/test.sh. That the header's layout is checked, M12's file, and which mask is which. */
+/* Tests of the C interface: run by clients/test.sh. M12's file, which mask is which, the texts, and the uses of the
+ * defaults. The header's layout is checked by compiling it. */
 #include "bmp_writer.h"
+#undef NDEBUG /* the assertions are the test */
 #include <assert.h>
 #include <string.h>
-
-#ifndef BMP_LAYOUT
-#error "the layout is checked from C11 on"
-#endif
 
 static const uint8_t m12[62] = {
     0x42, 0x4D, 0x3E, 0, 0, 0, 0, 0, 0, 0, 0x3A, 0, 0, 0, 0x28, 0, 0, 0, 5, 0, 0, 0, 1, 0, 0, 0, 1, 0, 8, 0, 1, 0, 0, 0, 0, 0, 0, 0, 0x13,
@@ -45,8 +43,57 @@ static void masks(void) {
     assert(bmp_check_masks(16, 0, 0, 0, 0xFF00) == BMP_NO_COLOUR_MASK);
 }
 
+/* Every number that is answered has a text of its own, and all others have one. */
+static void texts(void) {
+    const char *unknown = "unknown refusal number";
+    for (uint32_t number = 0; number < 300; number++) {
+        bool listed = number <= 16 || number == 255;
+        assert((strcmp(bmp_refusal_text(number), unknown) != 0) == listed);
+        for (uint32_t other = 0; other < number && listed; other++)
+            assert(strcmp(bmp_refusal_text(number), bmp_refusal_text(other)) != 0);
+    }
+    assert(strcmp(bmp_refusal_text(UINT32_MAX), unknown) == 0);
+    assert(strcmp(bmp_refusal_text(BMP_OK), "not refused") == 0);
+    assert(strcmp(bmp_refusal_text(BMP_BUFFER_TOO_SHORT), "the buffer is shorter than the file's bound") == 0);
+    assert(strcmp(bmp_refusal_text(BMP_UNKNOWN_FORMAT), "the format's number is none of those listed") == 0);
+}
+
+/* A number that is no format is 255 before all others. */
+static void format(void) {
+    bmp_source source = { 10, 0, 0, false, false, false, 0 };
+    bmp_answer answer = bmp_encoded_size_bound(source, BMP_OPTIONS_DEFAULT, NULL, 0, NULL, 0, NULL, 0, NULL, 0);
+    assert(answer.bytes == 0 && answer.refusal == BMP_UNKNOWN_FORMAT && answer.format == 0);
+}
+
+static const bmp_options at_start = BMP_OPTIONS_STATIC;
+
+/* The struct has no bytes between its fields, so that bytes can be compared. */
+static bool is_default(const bmp_options *options) {
+    return memcmp(options, &at_start, sizeof at_start) == 0;
+}
+
+/* The defaults initialise, are assigned and stand in an array, and have the values in the header's brackets. */
+static void defaults(void) {
+    bmp_options options = BMP_OPTIONS_DEFAULT;
+    assert(is_default(&options));
+    memset(&options, 1, sizeof options);
+    options = BMP_OPTIONS_DEFAULT;
+    assert(is_default(&options));
+    bmp_options several[2] = { BMP_OPTIONS_DEFAULT, BMP_OPTIONS_DEFAULT };
+    assert(is_default(&several[0]) && is_default(&several[1]));
+    bmp_options cleared;
+    memset(&cleared, 0, sizeof cleared);
+    cleared.rle = true;
+    cleared.embed_icc = true;
+    cleared.rendering_intent = 4;
+    assert(is_default(&cleared));
+}
+
 int main(void) {
     file();
     masks();
+    texts();
+    format();
+    defaults();
     return 0;
 }

@@ -1,50 +1,78 @@
 """A BMP writer whose every byte is proved, for Python, over its C interface.
 
+A notebook needs three lines; `grid` is a uint8 array of (height, width) whose cells are places in the palette:
+
     import bmp_writer
-    file, written = bmp_writer.encode(plane, 200, 200, "Pal8", palette=palette)
+    file, written = bmp_writer.encode(grid, palette=[(shade, shade, shade) for shade in range(256)])
+    open("grid.bmp", "wb").write(file)
 
-`plane`, `palette` and profiles are bytes, bytearray or memoryview; the file comes back as bytes. A call that is refused
-raises BmpError with the refusal's number and text. The shared library is looked for in the variable BMP_WRITER_LIBRARY,
-then beside this file (clients/build.sh writes target/clients/libbmp_writer.so).
+Any buffer of one-byte items may be lent: bytes, bytearray, memoryview, an array of uint8. A buffer of one dimension says
+nothing of its shape and needs the width and the height. What could be read in two ways is refused: an argument of the wrong
+type raises TypeError and one that does not fit ValueError, both with the argument's name, and what the library refuses raises
+BmpError with the number and the text of its table.
+
+The library is looked for in the variable BMP_WRITER_LIBRARY; if that is not set, beside this file, where an installed package
+has it, and then where `bash clients/build.sh` writes it in a checkout.
 """
-import ctypes
-import os
-from dataclasses import dataclass
-from typing import Optional, Sequence
+from __future__ import annotations
 
-FORMATS = ["Rgba", "Rgb24", "Bgra", "Bgr24", "Rgb555", "Rgb565", "Pal8", "Indexed4", "Indexed2", "Indexed1"]
-BYTES_PER_PIXEL = [4, 3, 4, 3, 2, 2, 1, 1, 1, 1]
-WRITTEN = ["Rgb32", "Rgb24", "Rgb16Rgb", "Rgb16Bitfields", "Indexed8", "Indexed4", "Indexed2", "Rle8", "Rle4", "Indexed1",
-           "Bitfields", "AlphaBitfields"]
+import ctypes
+import operator
+import os
+import reprlib
+from collections.abc import Mapping
+from dataclasses import dataclass
+from typing import TYPE_CHECKING, Any, List, Optional, Sequence, Tuple, Union
+
+if TYPE_CHECKING:
+    from typing_extensions import Buffer
+else:
+    Buffer = Any
+
+__all__ = ["BYTES_PER_PIXEL", "Bitfields", "BmpError", "CalibratedRgb", "EncodeOptions", "FORMATS", "REFUSALS", "WRITTEN",
+           "check_masks", "encode", "size_bound"]
+__version__ = "1.0.0"
+
+FORMATS = ("Rgba", "Rgb24", "Bgra", "Bgr24", "Rgb555", "Rgb565", "Pal8", "Indexed4", "Indexed2", "Indexed1")
+BYTES_PER_PIXEL = (4, 3, 4, 3, 2, 2, 1, 1, 1, 1)
+WRITTEN = ("Rgb32", "Rgb24", "Rgb16Rgb", "Rgb16Bitfields", "Indexed8", "Indexed4", "Indexed2", "Rle8", "Rle4", "Indexed1",
+           "Bitfields", "AlphaBitfields")
 
 REFUSALS = {
     1: "width or height is 0",
-    2: "width or height over 2,147,483,647",
-    3: "indexed format, palette absent",
-    4: "indexed format, palette bytes not a multiple of 4",
-    5: "more than one of: masks, calibrated colour, profile",
-    6: "masks: depth is neither 16 nor 32",
-    7: "masks: a mask has a bit above the depth",
-    8: "masks: a mask's ones are not one run",
-    9: "masks: a mask shares a bit with an earlier one",
-    10: "masks: red, green and blue masks all 0",
-    11: "masks: source is not Rgba, Rgb24, Bgra or Bgr24",
-    12: "plane length below stride x height",
-    13: "stride below width x source bytes",
-    14: "file over 4,294,967,295 bytes",
-    15: "offset past the end of the buffer, or fewer than bound bytes after it",
-    16: "plain file over 4,294,967,295 bytes, and the RLE stream is not under budget",
-    255: "no such source format",
+    2: "width or height is over 2147483647",
+    3: "an indexed format needs a palette",
+    4: "the palette's bytes are not a multiple of 4",
+    5: "more than one of masks, calibrated colour and a profile",
+    6: "the masks' depth is neither 16 nor 32",
+    7: "a mask has a bit above the depth",
+    8: "a mask's ones are not one run",
+    9: "a mask shares a bit with an earlier one",
+    10: "the masks of red, green and blue are all 0",
+    11: "masks are for Rgba, Rgb24, Bgra and Bgr24 alone",
+    12: "the plane is shorter than stride times height",
+    13: "the stride is below width times the bytes of a pixel",
+    14: "the file would be over 4294967295 bytes",
+    15: "the buffer is shorter than the file's bound",
+    16: "neither the stream nor the plain file fits in 4294967295 bytes",
+    255: "the format's number is none of those listed",
 }
 
 
-class BmpError(Exception):
+class BmpError(ValueError):
     """A refused call: `number` of the table, `text` in words."""
 
-    def __init__(self, number):
+    number: int
+    text: str
+
+    def __init__(self, number: int) -> None:
+        # The number alone is the exception's argument: unpickling, as multiprocessing does it, calls the class with it.
+        super().__init__(number)
         self.number = number
-        self.text = REFUSALS[number]
-        super().__init__(f"{number}: {self.text}")
+        self.text = REFUSALS.get(number, "unknown refusal number")
+
+    def __str__(self) -> str:
+        return f"{self.number}: {self.text}"
 
 
 @dataclass
@@ -63,7 +91,7 @@ class CalibratedRgb:
 
 @dataclass
 class EncodeOptions:
-    """The original encoder's options and defaults."""
+    """The original encoder's options and defaults. The call that is handed them checks every field."""
     top_down: bool = False
     minimal_palette: bool = False
     rle: bool = True
@@ -90,85 +118,280 @@ class _Answer(ctypes.Structure):
     _fields_ = [("bytes", ctypes.c_uint64), ("refusal", ctypes.c_uint32), ("format", ctypes.c_uint32)]
 
 
-_library = None
+_KINDS = {name.lower(): kind for kind, name in enumerate(FORMATS)}
+_MAX_U16, _MAX_U32, _MAX_U64 = 2 ** 16 - 1, 2 ** 32 - 1, 2 ** 64 - 1
+_BUILD = "run `rt staticlib capi && bash clients/build.sh` in the checkout, or set BMP_WRITER_LIBRARY to libbmp_writer.so"
+_ENTRY = "(red, green, blue) or (red, green, blue, alpha)"
+_ENTRIES = f"a sequence of {_ENTRY}"
+_library: Optional[ctypes.CDLL] = None
 
 
-def _lib():
+# ---- The library
+
+def _library_path() -> str:
+    named = os.environ.get("BMP_WRITER_LIBRARY")
+    here = os.path.dirname(os.path.abspath(__file__))
+    beside = os.path.join(here, "libbmp_writer.so")
+    if named:
+        return os.path.abspath(named)
+    return beside if os.path.exists(beside) else os.path.normpath(os.path.join(here, "../../target/clients/libbmp_writer.so"))
+
+
+def _lib() -> ctypes.CDLL:
+    """The library, loaded at the first call, so that the module can be imported and read without it."""
     global _library
     if _library is None:
-        here = os.path.join(os.path.dirname(os.path.abspath(__file__)), "libbmp_writer.so")
-        _library = ctypes.CDLL(os.environ.get("BMP_WRITER_LIBRARY", here))
+        path = _library_path()
+        if not os.path.exists(path):
+            raise ImportError(f"the library {path} is missing: {_BUILD}")
         slices = [ctypes.c_char_p, ctypes.c_size_t] * 4
-        _library.bmp_encoded_size_bound.argtypes = [_Source, _Options] + slices
-        _library.bmp_encoded_size_bound.restype = _Answer
-        _library.bmp_encode_into.argtypes = [_Source, _Options] + slices + [ctypes.c_void_p, ctypes.c_size_t, ctypes.c_size_t]
-        _library.bmp_encode_into.restype = _Answer
-        _library.bmp_check_masks.argtypes = [ctypes.c_uint16] + [ctypes.c_uint32] * 4
-        _library.bmp_check_masks.restype = ctypes.c_uint32
+        try:
+            library = ctypes.CDLL(path)
+            library.bmp_encoded_size_bound.argtypes = [_Source, _Options, *slices]
+            library.bmp_encoded_size_bound.restype = _Answer
+            library.bmp_encode_into.argtypes = [_Source, _Options, *slices, ctypes.c_void_p, ctypes.c_size_t, ctypes.c_size_t]
+            library.bmp_encode_into.restype = _Answer
+            library.bmp_check_masks.argtypes = [ctypes.c_uint16] + [ctypes.c_uint32] * 4
+            library.bmp_check_masks.restype = ctypes.c_uint32
+        except (OSError, AttributeError) as error:
+            raise ImportError(f"the library {path} cannot be used ({error}): {_BUILD}") from error
+        _library = library
     return _library
 
 
-def _unsigned(value, bits, name):
-    if not 0 <= value < 2 ** bits:
-        raise ValueError(f"{name} does not fit {bits} bits: {value}")
+# ---- Arguments, each checked under its name
+
+def _type(value: object) -> str:
+    kind = type(value)
+    return kind.__qualname__ if kind.__module__ == "builtins" else f"{kind.__module__}.{kind.__qualname__}"
+
+
+def _whole(name: str, value: Any, low: int, high: int) -> int:
+    """An int, or what stands for one exactly, such as numpy's integers. Python's bool and numpy's count as ints, but not here."""
+    try:
+        number = None if type(value).__name__ in ("bool", "bool_") else operator.index(value)
+    except TypeError:
+        number = None
+    if number is None:
+        raise TypeError(f"{name}: {reprlib.repr(value)} is of type {_type(value)}; an int is needed")
+    if not low <= number <= high:
+        raise ValueError(f"{name}: {number} is not in {low} .. {high}")
+    return number
+
+
+def _flag(name: str, value: Any) -> bool:
+    """A bool and nothing else: the text "no" is true."""
+    if not isinstance(value, bool):
+        raise TypeError(f"{name}: {reprlib.repr(value)} is of type {_type(value)}; True or False is needed")
     return value
 
 
-def _options(o):
-    raw = _Options(top_down=o.top_down, minimal_palette=o.minimal_palette, rle=o.rle, embed_icc=o.embed_icc,
-                   rendering_intent=_unsigned(o.rendering_intent, 32, "rendering_intent"))
-    if o.bitfields is not None:
+def _items(name: str, value: Any, needed: str) -> List[Any]:
+    """The items of a list, a tuple or an array. Text and bytes have other ones, and a set or a mapping has them in no order."""
+    listed = hasattr(value, "__len__") and hasattr(value, "__getitem__") and getattr(value, "shape", None) != ()
+    if not listed or isinstance(value, (str, bytes, bytearray, Mapping)):
+        raise TypeError(f"{name}: {reprlib.repr(value)} is of type {_type(value)}; {needed} is needed")
+    return list(value)
+
+
+def _wholes(name: str, values: Any, count: int, low: int, high: int) -> List[int]:
+    items = _items(name, values, f"a sequence of {count} ints")
+    if len(items) != count:
+        raise ValueError(f"{name}: {len(items)} given; {count} are needed")
+    return [_whole(f"{name}[{k}]", item, low, high) for k, item in enumerate(items)]
+
+
+def _view(name: str, value: Any) -> memoryview:
+    """A view of one-byte items. Wider ones would be read as several cells, and a negative one as another shade."""
+    try:
+        view = memoryview(value)
+    except TypeError:
+        raise TypeError(f"{name}: {_type(value)} given; bytes, bytearray, memoryview or an array of uint8 is needed") from None
+    except (BufferError, ValueError) as error:
+        raise TypeError(f"{name}: {_type(value)} lends no buffer ({error})") from error
+    item = view.format.lstrip("@=<>!")  # A byte has no order.
+    if view.itemsize == 1 and item in ("B", "c", "?"):
+        return view
+    size = f"{view.itemsize} byte" if view.itemsize == 1 else f"{view.itemsize} bytes"
+    signed = ", signed" if item == "b" else ""
+    needed, array = ("a cell", "grid") if name == "plane" else ("an item", name)
+    raise TypeError(f"{name}: {_type(value)} with items of {size} ('{view.format}'{signed}); one byte {needed} is needed "
+                    f"(numpy: {array}.astype('uint8') after checking its range)")
+
+
+def _bytes(value: Any, view: memoryview) -> bytes:
+    """What the view shows, row by row. A copy, since the library reads it while other threads may run; bytes never change."""
+    return value if type(value) is bytes else view.tobytes()
+
+
+def _flat(name: str, value: Any) -> bytes:
+    view = _view(name, value)
+    if view.ndim != 1:
+        raise ValueError(f"{name}: shape {view.shape}; one dimension is needed")
+    return _bytes(value, view)
+
+
+def _rgba(value: Any) -> bytes:
+    """Bytes that are said to be red, green, blue, alpha of each entry; a shape must not say otherwise."""
+    view = _view("palette_rgba", value)
+    shape = view.shape or ()
+    if len(shape) != 1 and (len(shape) != 2 or shape[1] != 4):
+        raise ValueError(f"palette_rgba: shape {shape}; one dimension or (entries, 4) is needed")
+    return _bytes(value, view)
+
+
+def _entries(palette: Any) -> bytes:
+    """The palette as the library reads it. An entry without alpha is opaque."""
+    try:
+        view = memoryview(palette)
+    except (TypeError, BufferError, ValueError):
+        rows = _items("palette", palette, _ENTRIES)
+    else:
+        if view.ndim != 2:
+            raise TypeError(f"palette: {_type(palette)} given, which does not say how many bytes an entry has; {_ENTRIES} is "
+                            "needed, or palette_rgba= for bytes that are red, green, blue, alpha of each entry")
+        try:
+            rows = view.tolist()
+        except NotImplementedError:
+            raise TypeError(f"palette: {_type(palette)} with items '{view.format}'; uint8 is needed") from None
+    out = bytearray()
+    for k, row in enumerate(rows):
+        name = f"palette[{k}]"
+        entry = _items(name, row, _ENTRY)
+        if len(entry) not in (3, 4):
+            raise ValueError(f"{name}: {len(entry)} numbers given; {_ENTRY} is needed")
+        out += bytes([_whole(name, v, 0, 255) for v in entry])
+        if len(entry) == 3:
+            out.append(255)
+    return bytes(out)
+
+
+def _kind(format: Any) -> int:
+    if not isinstance(format, str):
+        raise TypeError(f"format: {reprlib.repr(format)} is of type {_type(format)}; one of {', '.join(FORMATS)} is needed")
+    if format.lower() not in _KINDS:
+        raise BmpError(255)
+    return _KINDS[format.lower()]
+
+
+def _agreed(name: str, given: Any, shown: int, shape: Any, high: int) -> int:
+    """What the shape shows; a number beside it may only repeat it."""
+    if given is not None and _whole(name, given, 0, high) != shown:
+        raise ValueError(f"{name}: {given} given, and {shown} by the plane's shape {shape}")
+    return _whole(name, shown, 0, high)
+
+
+def _picture(plane: Any, width: Any, height: Any, kind: int, stride: Any) -> Tuple[bytes, int, int, int]:
+    """The plane's bytes, its width, its height and its stride."""
+    view, pixel = _view("plane", plane), BYTES_PER_PIXEL[kind]
+    shape = view.shape or ()
+    if len(shape) == 1:
+        for name, value in (("width", width), ("height", height)):
+            if value is None:
+                raise TypeError(f"{name} is missing: the plane has one dimension, so width and height are needed")
+        width, height = _whole("width", width, 0, _MAX_U32), _whole("height", height, 0, _MAX_U32)
+        stride = width * pixel if stride is None else _whole("stride", stride, 0, _MAX_U64)
+    else:
+        if len(shape) != (2 if pixel == 1 else 3) or (pixel > 1 and shape[2] != pixel):
+            needed = "(height, width)" if pixel == 1 else f"(height, width, {pixel})"
+            raise ValueError(f"plane: shape {shape} does not fit {FORMATS[kind]}, which needs {needed}, or one dimension with "
+                             "width and height")
+        width = _agreed("width", width, shape[1], shape, _MAX_U32)
+        height = _agreed("height", height, shape[0], shape, _MAX_U32)
+        stride = _agreed("stride", stride, shape[1] * pixel, shape, _MAX_U64)
+    return _bytes(plane, view), width, height, stride
+
+
+def _instance(name: str, value: Any, kind: type) -> None:
+    if not isinstance(value, kind):
+        raise TypeError(f"{name}: {_type(value)} given; {kind.__name__} is needed")
+
+
+def _raw_options(options: Any) -> _Options:
+    options = EncodeOptions() if options is None else options
+    _instance("options", options, EncodeOptions)
+    raw = _Options(rendering_intent=_whole("options.rendering_intent", options.rendering_intent, 0, _MAX_U32))
+    for name in ("top_down", "minimal_palette", "rle", "embed_icc"):
+        setattr(raw, name, _flag(f"options.{name}", getattr(options, name)))
+    if options.bitfields is not None:
+        _instance("options.bitfields", options.bitfields, Bitfields)
         raw.has_bitfields = True
-        raw.bitfields_bpp = _unsigned(o.bitfields.bpp, 16, "bpp")
-        red, green, blue, alpha = o.bitfields.masks
-        raw.bitfields_masks = (ctypes.c_uint32 * 4)(*(_unsigned(m, 32, "mask") for m in (red, green, blue, alpha)))
-    if o.calibrated_rgb is not None:
+        raw.bitfields_bpp = _whole("options.bitfields.bpp", options.bitfields.bpp, 0, _MAX_U16)
+        raw.bitfields_masks[:] = _wholes("options.bitfields.masks", options.bitfields.masks, 4, 0, _MAX_U32)
+    if options.calibrated_rgb is not None:
+        _instance("options.calibrated_rgb", options.calibrated_rgb, CalibratedRgb)
         raw.has_calibrated = True
-        if len(o.calibrated_rgb.endpoints) != 9 or len(o.calibrated_rgb.gamma) != 3:
-            raise ValueError("nine endpoints and three gammas are needed")
-        for e in o.calibrated_rgb.endpoints:
-            _unsigned(e + 2 ** 31, 32, "endpoint")
-        raw.endpoints = (ctypes.c_int32 * 9)(*o.calibrated_rgb.endpoints)
-        raw.gamma = (ctypes.c_uint32 * 3)(*(_unsigned(g, 32, "gamma") for g in o.calibrated_rgb.gamma))
+        raw.endpoints[:] = _wholes("options.calibrated_rgb.endpoints", options.calibrated_rgb.endpoints, 9, -2 ** 31, 2 ** 31 - 1)
+        raw.gamma[:] = _wholes("options.calibrated_rgb.gamma", options.calibrated_rgb.gamma, 3, 0, _MAX_U32)
     return raw
 
 
-def _arguments(plane, width, height, format, stride, palette, icc, linked_icc, options):
-    kind = FORMATS.index(format) if format in FORMATS else 10
-    if stride is None:
-        stride = width * (BYTES_PER_PIXEL + [1])[kind]
-    source = _Source(kind, _unsigned(width, 32, "width"), _unsigned(height, 32, "height"), palette is not None, icc is not None,
-                     linked_icc is not None, _unsigned(stride, 64, "stride"))
-    slices = []
-    for given in (plane, palette, icc, linked_icc):
-        data = b"" if given is None else bytes(given)
-        slices += [data, len(data)]
-    return [source, _options(options or EncodeOptions())] + slices
+# ---- The calls
 
-
-def _accepted(answer):
+def _accepted(answer: Any) -> Any:
     if answer.refusal != 0:
         raise BmpError(answer.refusal)
     return answer
 
 
-def size_bound(plane, width, height, format, stride=None, palette=None, icc=None, linked_icc=None, options=None):
-    """The bytes that a writing call asks for; no file is longer."""
-    return _accepted(_lib().bmp_encoded_size_bound(
-        *_arguments(plane, width, height, format, stride, palette, icc, linked_icc, options))).bytes
-
-
-def encode(plane, width, height, format, stride=None, palette=None, icc=None, linked_icc=None, options=None):
-    """The file as bytes, and what it was written as."""
-    arguments = _arguments(plane, width, height, format, stride, palette, icc, linked_icc, options)
+def _planned(plane: Any, width: Any, height: Any, format: Any, stride: Any, palette: Any, icc: Any, linked_icc: Any, options: Any,
+             palette_rgba: Any, more_follows: Any) -> Tuple[List[Any], int]:
+    """The library's arguments, and the bytes that it asks for with them. Its own refusals come before that of a longer plane."""
+    kind = _kind(format)
+    _flag("more_follows", more_follows)
+    if palette is not None and palette_rgba is not None:
+        raise ValueError("palette and palette_rgba: both given; one of them says it all")
+    data, width, height, stride = _picture(plane, width, height, kind, stride)
+    table = _entries(palette) if palette is not None else None if palette_rgba is None else _rgba(palette_rgba)
+    profile = None if icc is None else _flat("icc", icc)
+    linked = None if linked_icc is None else _flat("linked_icc", linked_icc)
+    source = _Source(kind, width, height, table is not None, profile is not None, linked is not None, stride)
+    arguments: List[Any] = [source, _raw_options(options)]
+    for lent in (data, table, profile, linked):
+        arguments += [lent, 0 if lent is None else len(lent)]
     bound = _accepted(_lib().bmp_encoded_size_bound(*arguments)).bytes
+    if len(data) > stride * height and not more_follows:
+        raise ValueError(f"plane: {len(data)} bytes given, and stride times height is {stride * height}; pass more_follows=True "
+                         "if what follows is no part of the picture")
+    return arguments, bound
+
+
+def size_bound(plane: Buffer, width: Optional[int] = None, height: Optional[int] = None, format: str = "Pal8",
+               stride: Optional[int] = None, palette: Union[Sequence[Sequence[int]], Buffer, None] = None,
+               icc: Optional[Buffer] = None, linked_icc: Optional[Buffer] = None, options: Optional[EncodeOptions] = None, *,
+               palette_rgba: Optional[Buffer] = None, more_follows: bool = False) -> int:
+    """The bytes that a file of these arguments needs at most: those of `encode`, which says what they are."""
+    return _planned(plane, width, height, format, stride, palette, icc, linked_icc, options, palette_rgba, more_follows)[1]
+
+
+def encode(plane: Buffer, width: Optional[int] = None, height: Optional[int] = None, format: str = "Pal8",
+           stride: Optional[int] = None, palette: Union[Sequence[Sequence[int]], Buffer, None] = None,
+           icc: Optional[Buffer] = None, linked_icc: Optional[Buffer] = None, options: Optional[EncodeOptions] = None, *,
+           palette_rgba: Optional[Buffer] = None, more_follows: bool = False) -> Tuple[bytes, str]:
+    """The file as bytes, and what it was written as (one of WRITTEN).
+
+    plane         One-byte items, rows from the top. A shape of (height, width), or of (height, width, bytes of a pixel) for
+                  direct colour, gives width, height and stride; one dimension needs width and height. Words of Rgb555 and
+                  Rgb565 have the low byte first (numpy: words.astype('<u2').view('uint8').reshape(height, width, 2)).
+    format        One of FORMATS, in upper or lower case.
+    stride        The bytes from one row to the next; without it the rows follow each other.
+    palette       A sequence of (red, green, blue) or (red, green, blue, alpha), or a uint8 array of (entries, 3) or
+                  (entries, 4). An empty one is a palette too.
+    palette_rgba  The palette as bytes that are red, green, blue, alpha of each entry, in place of `palette`.
+    icc           A colour profile to embed; linked_icc the name of one, as the file is to hold it.
+    more_follows  Whether the plane may be longer than stride times height. It is refused otherwise, since a plane that is too
+                  long has mostly another width.
+    """
+    arguments, bound = _planned(plane, width, height, format, stride, palette, icc, linked_icc, options, palette_rgba,
+                                more_follows)
     out = ctypes.create_string_buffer(bound)
     answer = _accepted(_lib().bmp_encode_into(*arguments, out, bound, 0))
-    return out.raw[:answer.bytes], WRITTEN[answer.format]
+    return memoryview(out)[:answer.bytes].tobytes(), WRITTEN[answer.format]
 
 
-def check_masks(bpp, red, green, blue, alpha=0):
+def check_masks(bpp: int, red: int, green: int, blue: int, alpha: int = 0) -> None:
     """Raises BmpError with 6 to 10 where the masks are refused."""
-    number = _lib().bmp_check_masks(_unsigned(bpp, 16, "bpp"), *(_unsigned(m, 32, "mask") for m in (red, green, blue, alpha)))
+    named = (("red", red), ("green", green), ("blue", blue), ("alpha", alpha))
+    number = _lib().bmp_check_masks(_whole("bpp", bpp, 0, _MAX_U16), *(_whole(name, mask, 0, _MAX_U32) for name, mask in named))
     if number != 0:
         raise BmpError(number)

@@ -1,89 +1,523 @@
-"""Tests of the Python module, and of the program beside it: run by clients/test.sh."""
+"""Tests of the Python module, of its package and of the program beside it: run by clients/test.sh."""
+import array
+import copy
+import ctypes
+import multiprocessing
 import os
+import pickle
+import re
 import subprocess
+import sys
 import tempfile
 import unittest
 
 import bmp_writer
-from bmp_writer import BmpError, Bitfields, CalibratedRgb, EncodeOptions, encode
+from bmp_writer import BYTES_PER_PIXEL, FORMATS, BmpError, Bitfields, CalibratedRgb, EncodeOptions, encode, size_bound
+
+try:
+    import numpy
+except ImportError:
+    numpy = None
+
+HERE = os.path.dirname(os.path.abspath(__file__))
+ROOT = os.path.join(HERE, "../..")
+GREYS = [(shade, shade, shade) for shade in range(256)]
+BUILD = "rt staticlib capi && bash clients/build.sh"
 
 M12 = bytes.fromhex("424D3E0000000000000" "03A000000280000000500000001000000010008000100000000000000130B0000130B00000100000000"
                     "000000000000000507" "0001")
 
 
-class Tests(unittest.TestCase):
-    def refused(self, number, *arguments, **named):
-        with self.assertRaises(BmpError) as caught:
-            encode(*arguments, **named)
-        self.assertEqual(caught.exception.number, number)
-        self.assertIn(str(number), str(caught.exception))
+def environment(**named):
+    """The variables of a child that finds a library only where `named` says."""
+    kept = {name: value for name, value in os.environ.items() if name not in ("BMP_WRITER_LIBRARY", "PYTHONPATH")}
+    return {**kept, "PYTHONDONTWRITEBYTECODE": "1", **named}
 
+
+def python(text, folder, **named):
+    """What a new interpreter prints, errors among it."""
+    return subprocess.run([sys.executable, "-c", text], cwd=folder, env=environment(**named), stdout=subprocess.PIPE,
+                          stderr=subprocess.STDOUT, universal_newlines=True, timeout=60)
+
+
+def read(path):
+    with open(os.path.join(HERE, path), encoding="utf-8") as file:
+        return file.read()
+
+
+def files_below(folder):
+    return {os.path.join(above, name) for above, folders, files in os.walk(folder) for name in folders + files}
+
+
+def shown(file, width, height):
+    """The indices that a plain 8-bit file holds, rows from the top."""
+    start, step = int.from_bytes(file[10:14], "little"), (width + 3) // 4 * 4
+    return b"".join(file[start + y * step:start + y * step + width] for y in reversed(range(height)))
+
+
+class Case(unittest.TestCase):
+    def refused(self, number, *arguments, **named):
+        for call in (encode, size_bound):
+            with self.assertRaises(BmpError) as caught:
+                call(*arguments, **named)
+            self.assertEqual(caught.exception.number, number)
+            self.assertEqual(str(caught.exception), f"{number}: {bmp_writer.REFUSALS[number]}")
+
+    def wrong(self, kind, pieces, *arguments, **named):
+        """Both calls raise exactly this kind, and the text starts with the first piece and has the others."""
+        for call in (encode, size_bound):
+            with self.assertRaises(kind) as caught:
+                call(*arguments, **named)
+            text = str(caught.exception)
+            self.assertIs(type(caught.exception), kind, text)
+            self.assertTrue(text.startswith(pieces[0]), text)
+            for piece in pieces[1:]:
+                self.assertIn(piece, text)
+
+
+class Files(Case):
     def test_the_specifications_file(self):
         options = EncodeOptions(minimal_palette=True)
-        self.assertEqual(encode(b"\7" * 5, 5, 1, "Pal8", palette=b"", options=options), (M12, "Rle8"))
-        self.assertEqual(bmp_writer.size_bound(b"\7" * 5, 5, 1, "Pal8", palette=b"", options=options), 78)
+        self.assertEqual(encode(b"\7" * 5, 5, 1, "Pal8", palette=[], options=options), (M12, "Rle8"))
+        self.assertEqual(encode(b"\7" * 5, 5, 1, "Pal8", palette_rgba=b"", options=options), (M12, "Rle8"))
+        self.assertEqual(size_bound(b"\7" * 5, 5, 1, "Pal8", palette=(), options=options), 78)
 
-    def test_kinds_of_buffers(self):
-        plane = bytes(range(12))
-        files = {encode(kind(plane), 2, 2, "Rgb24", stride=6)[0] for kind in (bytes, bytearray, memoryview)}
-        self.assertEqual(len(files), 1)
-
-    def test_refusals(self):
-        self.refused(1, b"", 0, 1, "Pal8", palette=b"")
+    def test_every_refusal_that_a_call_can_give(self):
+        self.refused(1, b"", 0, 1, "Pal8", palette=[])
+        self.refused(2, b"", 2 ** 31, 1, "Pal8", palette=[])
         self.refused(3, b"\0", 1, 1, "Pal8")
-        self.refused(4, b"\0", 1, 1, "Pal8", palette=b"abc")
+        self.refused(4, b"\0", 1, 1, "Pal8", palette_rgba=b"abc")
+        both = EncodeOptions(bitfields=Bitfields(16, (0xF800, 0x7E0, 0x1F, 0)), calibrated_rgb=CalibratedRgb([0] * 9, [0] * 3))
+        self.refused(5, b"\0" * 3, 1, 1, "Rgb24", options=both)
+        for number, bpp, masks in ((6, 24, (1, 2, 4, 0)), (7, 16, (0x10000, 0, 0, 0)), (8, 32, (5, 0, 0, 0)),
+                                   (9, 32, (1, 1, 0, 0)), (10, 32, (0, 0, 0, 1))):
+            self.refused(number, b"\0" * 3, 1, 1, "Rgb24", options=EncodeOptions(bitfields=Bitfields(bpp, masks)))
+        self.refused(11, b"\0" * 2, 1, 1, "Rgb565", options=EncodeOptions(bitfields=Bitfields(16, (0xF800, 0x7E0, 0x1F, 0))))
         self.refused(12, b"", 1, 1, "Rgba")
         self.refused(13, b"\0" * 9, 4, 1, "Rgba", stride=9)
         self.refused(255, b"", 1, 1, "Cmyk")
-        both = EncodeOptions(bitfields=Bitfields(16, (0xF800, 0x7E0, 0x1F, 0)), calibrated_rgb=CalibratedRgb([0] * 9, [0] * 3))
-        self.refused(5, b"\0" * 3, 1, 1, "Rgb24", options=both)
 
     def test_masks(self):
         bmp_writer.check_masks(16, 0xF800, 0x7E0, 0x1F)
-        for number, masks in ((7, (16, 0x50000, 0, 0)), (8, (16, 0xA00, 0, 0)), (8, (16, 0xA00, 0x50000, 0)), (7, (16, 0x50000, 0xA00, 0)),
-                              (8, (16, 0, 0xA00, 0x50000)), (7, (16, 0, 0x50000, 0xA00)), (10, (16, 0, 0, 0, 0xFF00))):
+        for number, masks in ((7, (16, 0x50000, 0, 0)), (8, (16, 0xA00, 0, 0)), (8, (16, 0xA00, 0x50000, 0)),
+                              (7, (16, 0x50000, 0xA00, 0)), (8, (16, 0, 0xA00, 0x50000)), (7, (16, 0, 0x50000, 0xA00)),
+                              (10, (16, 0, 0, 0, 0xFF00))):
             with self.assertRaises(BmpError) as caught:
                 bmp_writer.check_masks(*masks)
             self.assertEqual(caught.exception.number, number)
-        file, written = encode(b"\xff\x00\x80", 1, 1, "Rgb24", options=EncodeOptions(bitfields=Bitfields(16, (0xF800, 0x7E0, 0x1F, 0))))
+        options = EncodeOptions(bitfields=Bitfields(16, (0xF800, 0x7E0, 0x1F, 0)))
+        file, written = encode(b"\xff\x00\x80", 1, 1, "Rgb24", options=options)
         self.assertEqual((written, file[66:68]), ("Bitfields", b"\x10\xf8"))
+        for masks in ((True, 1, 2, 4), (16, 1.0, 2, 4), (16, 1, "2", 4)):
+            with self.assertRaises(TypeError):
+                bmp_writer.check_masks(*masks)
+        with self.assertRaisesRegex(ValueError, r"^bpp: 65536 is not in 0 \.\. 65535$"):
+            bmp_writer.check_masks(65536, 1, 2, 4)
 
     def test_profiles(self):
         file, written = encode(b"\0" * 3, 1, 1, "Rgb24", icc=b"abc", linked_icc=b"path")
         self.assertEqual((written, file[-4:], file[70:74]), ("Rgb24", b"path", b"KNIL"))
 
-    def test_numbers_that_do_not_fit(self):
-        with self.assertRaises(ValueError):
-            encode(b"", -1, 1, "Pal8")
-        with self.assertRaises(ValueError):
-            encode(b"", 2 ** 32, 1, "Pal8")
+    def test_names_in_any_case(self):
+        for name, size in zip(FORMATS, BYTES_PER_PIXEL):
+            plane = bytes(range(6 * size))
+            files = {encode(plane, 3, 2, spelt, palette=GREYS) for spelt in (name, name.lower(), name.upper(), name.swapcase())}
+            self.assertEqual(len(files), 1)
+        for name in ("", "Pal", "Pal8 ", "pal-8", "Rgb"):
+            self.refused(255, b"\0", 1, 1, name, palette=GREYS)
+        for name in (6, None, b"Pal8"):
+            self.wrong(TypeError, ["format: ", "Pal8"], b"\0", 1, 1, name, palette=GREYS)
 
     def test_the_program_writes_the_same_files(self):
+        if not os.environ.get("BMP_WRITER_PROGRAM"):
+            self.skipTest("BMP_WRITER_PROGRAM does not name the command")
         program = os.path.abspath(os.environ["BMP_WRITER_PROGRAM"])
         plane, palette, profile = bytes(range(240)), bytes(range(40)), b"profile"
         masks = Bitfields(32, (0x3FF00000, 0xFFC00, 0x3FF, 0xC0000000))
         gauges = CalibratedRgb([1, -2, 3, -4, 5, 6, 7, 8, -(2 ** 31)], [9, 10, 2 ** 32 - 1])
+        twelve = "1,-2,3,-4,5,6,7,8,-2147483648,9,10,0xFFFFFFFF"
         cases = (
             ("Pal8", 9, 5, ["--palette", "palette"], EncodeOptions()),
-            ("Pal8", 9, 5, ["--palette", "palette", "--top-down", "--minimal-palette"], EncodeOptions(top_down=True, minimal_palette=True)),
-            ("Indexed4", 20, 2, ["--palette", "palette", "--no-rle"], EncodeOptions(rle=False)),
+            ("PAL8", 9, 5, ["--palette", "palette", "--top-down", "--minimal-palette"],
+             EncodeOptions(top_down=True, minimal_palette=True)),
+            ("indexed4", 20, 2, ["--palette", "palette", "--no-rle"], EncodeOptions(rle=False)),
             ("Rgb24", 5, 3, ["--icc", "profile", "--rendering-intent", "8"], EncodeOptions(rendering_intent=8)),
             ("Bgr24", 5, 3, ["--icc", "profile", "--no-embed-icc"], EncodeOptions(embed_icc=False)),
-            ("Rgba", 5, 3, ["--bitfields", "32,0x3FF00000,0xFFC00,0x3FF,0xC0000000"], EncodeOptions(bitfields=masks)),
-            ("Rgb565", 5, 3, ["--calibrated-rgb", "1,-2,3,-4,5,6,7,8,-2147483648,9,10,0xFFFFFFFF"], EncodeOptions(calibrated_rgb=gauges)),
+            ("rgba", 5, 3, ["--bitfields", "32,0x3FF00000,0xFFC00,0x3FF,0xC0000000"], EncodeOptions(bitfields=masks)),
+            ("RGB565", 5, 3, ["--calibrated-rgb", twelve], EncodeOptions(calibrated_rgb=gauges)),
         )
         with tempfile.TemporaryDirectory() as folder:
-            for name, content in (("plane", plane), ("palette", palette), ("profile", profile)):
+            def write(name, content):
                 with open(os.path.join(folder, name), "wb") as file:
                     file.write(content)
+
+            def run(form, width, height, words):
+                asked = ["--plane", "plane", "--format", form, "--width", str(width), "--height", str(height)]
+                return subprocess.run([program] + asked + words + ["--out", "out.bmp"], cwd=folder, stdout=subprocess.PIPE,
+                                      stderr=subprocess.PIPE, universal_newlines=True, timeout=60)
+
+            write("palette", palette)
+            write("profile", profile)
             for form, width, height, words, options in cases:
-                given = {"palette": palette} if "--palette" in words else {"icc": profile} if "--icc" in words else {}
-                expected, written = encode(plane, width, height, form, options=options, **given)
-                words = ["--plane", "plane", "--format", form.lower(), "--width", str(width), "--height", str(height)] + words
-                said = subprocess.run([program] + words + ["--out", "out.bmp"], cwd=folder, capture_output=True, text=True).stdout
-                with open(os.path.join(folder, "out.bmp"), "rb") as file:
-                    self.assertEqual(file.read(), expected)
-                self.assertTrue(said.startswith(f"out.bmp: {written}, {len(expected)} bytes, cksum "), said)
+                given = {"palette_rgba": palette} if "--palette" in words else {"icc": profile} if "--icc" in words else {}
+                size = [size for name, size in zip(FORMATS, BYTES_PER_PIXEL) if name.lower() == form.lower()][0]
+                needed = plane[:width * height * size]
+                expected, written = encode(needed, width, height, form, options=options, **given)
+                for content, more in ((needed, []), (plane, ["--more-follows"])):
+                    write("plane", content)
+                    ran = run(form, width, height, words + more)
+                    self.assertEqual((ran.returncode, ran.stderr), (0, ""))
+                    self.assertTrue(ran.stdout.startswith(f"out.bmp: {written}, {len(expected)} bytes, cksum "), ran.stdout)
+                    with open(os.path.join(folder, "out.bmp"), "rb") as file:
+                        self.assertEqual(file.read(), expected)
+                    os.remove(os.path.join(folder, "out.bmp"))
+            write("plane", plane)
+            longer = run("Pal8", 9, 5, ["--palette", "palette"])
+            unknown = run("Cmyk", 9, 5, ["--palette", "palette"])
+            for ran in (longer, unknown):
+                self.assertIn(ran.returncode, (1, 2))
+                self.assertEqual(ran.stdout, "")
+                self.assertNotEqual(ran.stderr, "")
+                self.assertFalse(os.path.exists(os.path.join(folder, "out.bmp")))
 
 
-unittest.main()
+class Planes(Case):
+    def test_kinds_of_buffers(self):
+        plane = bytes(range(12))
+        kinds = (bytes, bytearray, memoryview, lambda b: array.array("B", b), (ctypes.c_ubyte * 12).from_buffer_copy,
+                 (ctypes.c_char * 12).from_buffer_copy, lambda b: memoryview(b).cast("c"),
+                 lambda b: memoryview(b + b)[:12], lambda b: memoryview(bytes(v for v in b for _ in "ab"))[::2])
+        self.assertEqual(len({encode(kind(plane), 2, 2, "Rgb24", stride=6) for kind in kinds}), 1)
+        flags = memoryview(b"\1\0\0\1").cast("?")
+        self.assertEqual(encode(flags, 2, 2, "Indexed1", palette=GREYS), encode(b"\1\0\0\1", 2, 2, "Indexed1", palette=GREYS))
+
+    def test_a_grid_of_wide_items(self):
+        grid = array.array("q", range(40000))
+        wide = ["plane: array.array with items of 8 bytes ('q'); one byte a cell is needed", "astype('uint8')"]
+        self.wrong(TypeError, wide, grid, 200, 200, "Pal8", palette=GREYS)
+        shaped = memoryview(bytes(grid)).cast("q", (200, 200))
+        self.wrong(TypeError, ["plane: memoryview with items of 8 bytes ('q')"], shaped, palette=GREYS)
+        for code in "hHiIlLQ":
+            self.wrong(TypeError, ["plane: ", f"('{code}')"], array.array(code, range(4)), 2, 2, "Pal8", palette=GREYS)
+
+    def test_signed_cells(self):
+        self.wrong(TypeError, ["plane: ", "1 byte ('b', signed)"], array.array("b", [-1] * 4), 2, 2, "Pal8", palette=GREYS)
+
+    def test_an_integer_as_plane(self):
+        self.wrong(TypeError, ["plane: int given; bytes"], 4, 2, 2, "Pal8", palette=GREYS)
+
+    def test_floats(self):
+        self.wrong(TypeError, ["plane: float given"], 4.0, 2, 2, "Pal8", palette=GREYS)
+        self.wrong(TypeError, ["plane: list given"], [0.0, 1.0, 2.0, 3.0], 2, 2, "Pal8", palette=GREYS)
+        self.wrong(TypeError, ["plane: array.array with items of 8 bytes ('d')"], array.array("d", range(4)), 2, 2, "Pal8",
+                   palette=GREYS)
+
+    def test_other_things_as_buffers(self):
+        for value, kind in ((None, "NoneType"), ("abcd", "str"), ([0, 1, 2, 3], "list"), ((0, 1, 2, 3), "tuple"), (True, "bool")):
+            self.wrong(TypeError, [f"plane: {kind} given"], value, 2, 2, "Pal8", palette=GREYS)
+        for name in ("icc", "linked_icc", "palette_rgba"):
+            for value, kind in ((4, "int"), ("abc", "str"), ([1], "list")):
+                self.wrong(TypeError, [f"{name}: {kind} given"], b"\0", 1, 1, "Pal8", **{name: value})
+            self.wrong(TypeError, [f"{name}: array.array with items of 8 bytes ('d')"], b"\0", 1, 1, "Pal8",
+                       **{name: array.array("d", [1])})
+            square = memoryview(b"abcd").cast("B", (2, 2))
+            self.wrong(ValueError, [f"{name}: shape (2, 2)"], b"\0", 1, 1, "Pal8", **{name: square})
+
+    def test_a_plane_that_is_too_long(self):
+        plane = bytes(range(240))
+        short, written = encode(plane[:45], 9, 5, "Pal8", palette=GREYS)
+        self.wrong(ValueError, ["plane: 46 bytes given, and stride times height is 45", "more_follows=True"], plane[:46], 9, 5,
+                   "Pal8", palette=GREYS)
+        self.wrong(ValueError, ["plane: 240 bytes given, and stride times height is 60"], plane, 9, 5, "Pal8", stride=12,
+                   palette=GREYS)
+        self.assertEqual(encode(plane, 9, 5, "Pal8", palette=GREYS, more_follows=True), (short, written))
+        self.assertEqual(encode(plane[:45], 9, 5, "Pal8", palette=GREYS, more_follows=True), (short, written))
+        self.assertEqual(size_bound(plane, 9, 5, "Pal8", palette=GREYS, more_follows=True),
+                         size_bound(plane[:45], 9, 5, "Pal8", palette=GREYS))
+        # The library's own refusals come first.
+        self.refused(3, plane, 9, 5, "Pal8")
+        self.refused(13, plane, 9, 5, "Pal8", stride=8, palette=GREYS)
+        self.refused(1, plane, 9, 0, "Pal8", palette=GREYS)
+        self.refused(12, plane[:44], 9, 5, "Pal8", palette=GREYS, more_follows=True)
+        for value in (1, 0, None, "no"):
+            self.wrong(TypeError, ["more_follows: "], plane, 9, 5, "Pal8", palette=GREYS, more_follows=value)
+
+    def test_shapes(self):
+        plane = bytes(range(24))
+        shape = memoryview(plane).cast("B", (4, 6))
+        self.assertEqual(encode(shape, palette=GREYS), encode(plane, 6, 4, "Pal8", palette=GREYS))
+        self.assertEqual(encode(shape, 6, 4, "Pal8", 6, palette=GREYS), encode(shape, palette=GREYS))
+        self.assertEqual(encode(shape, format="indexed4", palette=GREYS), encode(plane, 6, 4, "Indexed4", palette=GREYS))
+        self.assertEqual(shown(encode(shape, palette=GREYS, options=EncodeOptions(rle=False))[0], 6, 4), plane)
+        self.assertEqual(size_bound(shape, palette=GREYS), size_bound(plane, 6, 4, "Pal8", palette=GREYS))
+        for name, size in zip(FORMATS[:6], BYTES_PER_PIXEL):
+            colours = memoryview(plane).cast("B", (2, 12 // size, size))
+            self.assertEqual(encode(colours, format=name), encode(plane, 12 // size, 2, name))
+        self.assertEqual(encode(((ctypes.c_ubyte * 6) * 4).from_buffer_copy(plane), palette=GREYS), encode(shape, palette=GREYS))
+
+    def test_shapes_that_do_not_fit(self):
+        plane = bytes(range(24))
+        flat, deep = memoryview(plane).cast("B", (4, 6)), memoryview(plane).cast("B", (2, 4, 3))
+        self.wrong(ValueError, ["width: 4 given, and 6 by the plane's shape (4, 6)"], flat, 4, 6, palette=GREYS)
+        self.wrong(ValueError, ["height: 3 given, and 4 by the plane's shape (4, 6)"], flat, 6, 3, palette=GREYS)
+        self.wrong(ValueError, ["stride: 8 given, and 6 by the plane's shape (4, 6)"], flat, stride=8, palette=GREYS)
+        self.wrong(ValueError, ["stride: 4 given, and 12 by the plane's shape (2, 4, 3)"], deep, format="Rgb24", stride=4)
+        self.wrong(ValueError, ["plane: shape (4, 6) does not fit Rgb24, which needs (height, width, 3)"], flat, 2, 4, "Rgb24")
+        self.wrong(ValueError, ["plane: shape (4, 6) does not fit Rgb565, which needs (height, width, 2)"], flat, format="Rgb565")
+        self.wrong(ValueError, ["plane: shape (2, 4, 3) does not fit Rgba, which needs (height, width, 4)"], deep, format="Rgba")
+        self.wrong(ValueError, ["plane: shape (2, 4, 3) does not fit Pal8, which needs (height, width)"], deep, palette=GREYS)
+        self.wrong(ValueError, ["plane: shape () does not fit Pal8"], ctypes.c_ubyte(7), 1, 1, palette=GREYS)
+        self.wrong(ValueError, ["plane: shape (1, 2, 4, 3) does not fit Rgb24"], memoryview(plane).cast("B", (1, 2, 4, 3)),
+                   format="Rgb24")
+        for given, missing in (({}, "width"), ({"width": 6}, "height"), ({"height": 4}, "width")):
+            self.wrong(TypeError, [f"{missing} is missing"], plane, palette=GREYS, **given)
+        self.refused(3, flat)
+
+    def test_a_thousand_squared(self):
+        plane = bytes(v * v % 256 for v in range(1000)) * 1000
+        options = EncodeOptions(rle=False)
+        file, written = encode(memoryview(plane).cast("B", (1000, 1000)), palette=GREYS, options=options)
+        self.assertEqual((written, shown(file, 1000, 1000)), ("Indexed8", plane))
+
+
+@unittest.skipUnless(numpy, "numpy is not installed")
+class Arrays(Case):
+    def test_a_grid(self):
+        grid = numpy.arange(200 * 100, dtype="uint8").reshape(100, 200)
+        file, written = encode(grid, palette=GREYS, options=EncodeOptions(rle=False))
+        self.assertEqual((written, shown(file, 200, 100)), ("Indexed8", grid.tobytes()))
+        self.assertEqual(encode(grid, numpy.int64(200), numpy.uint8(100), palette=GREYS), encode(grid, palette=GREYS))
+        grid.flags.writeable = False
+        self.assertEqual(encode(grid, palette=GREYS), encode(grid.tobytes(), 200, 100, "Pal8", palette=GREYS))
+
+    def test_grids_that_are_not_contiguous(self):
+        grid = numpy.arange(200 * 100, dtype="uint8").reshape(100, 200)
+        for view in (grid.T, grid[::2, ::3], grid[::-1], grid[:, ::-1], grid[10:20, 30:50], numpy.asfortranarray(grid)):
+            height, width = view.shape
+            file, _ = encode(view, palette=GREYS, options=EncodeOptions(rle=False))
+            self.assertEqual(shown(file, width, height), numpy.ascontiguousarray(view).tobytes())
+        colours = numpy.arange(240, dtype="uint8").reshape(8, 10, 3)
+        self.assertEqual(encode(colours[::-1, :, ::-1], format="Rgb24"),
+                         encode(colours[::-1, :, ::-1].tobytes(), 10, 8, "rgb24"))
+        self.assertEqual(encode(colours, format="Rgb24")[0], encode(colours[:, :, ::-1], format="Bgr24")[0])
+
+    def test_grids_of_other_types(self):
+        for kind in ("int64", "int32", "uint16", "float64", "float32", "complex64", "int8", "object", "S1"):
+            grid = numpy.zeros((2, 2), dtype=kind)
+            self.wrong(TypeError, ["plane: numpy.ndarray with items of "], grid, palette=GREYS)
+            self.wrong(TypeError, ["plane: numpy.ndarray with items of "], grid.reshape(-1), 2, 2, palette=GREYS)
+        self.wrong(TypeError, ["plane: numpy.ndarray lends no buffer"], numpy.zeros((2, 2), dtype="datetime64[s]"), palette=GREYS)
+        self.wrong(TypeError, ["plane: numpy.int64 with items of 8 bytes"], numpy.int64(4), 2, 2, palette=GREYS)
+        self.wrong(ValueError, ["plane: shape () does not fit Pal8"], numpy.uint8(4), 1, 1, palette=GREYS)
+        flags = numpy.array([[True, False], [False, True]])
+        self.assertEqual(encode(flags, format="Indexed1", palette=GREYS), encode(b"\1\0\0\1", 2, 2, "Indexed1", palette=GREYS))
+
+    def test_words(self):
+        words = numpy.arange(6, dtype="uint16").reshape(2, 3) * 5000
+        self.wrong(TypeError, ["plane: numpy.ndarray with items of 2 bytes ('H')"], words, format="Rgb565")
+        plane = words.astype("<u2").view("uint8").reshape(2, 3, 2)
+        self.assertEqual(encode(plane, format="Rgb565"), encode(words.astype("<u2").tobytes(), 3, 2, "Rgb565"))
+
+    def test_palettes(self):
+        grid = numpy.arange(16, dtype="uint8").reshape(4, 4)
+        greys = numpy.array(GREYS)
+        for palette in (greys, greys.astype("uint8"), greys.astype("uint8")[:, ::-1], list(greys), tuple(greys.astype("uint8"))):
+            self.assertEqual(encode(grid, palette=palette), encode(grid, palette=GREYS))
+        rgba = numpy.hstack([greys, numpy.full((256, 1), 255)]).astype("uint8")
+        self.assertEqual(encode(grid, palette=rgba), encode(grid, palette=GREYS))
+        self.assertEqual(encode(grid, palette_rgba=rgba), encode(grid, palette=GREYS))
+        self.wrong(ValueError, ["palette_rgba: shape (256, 3)"], grid, palette_rgba=greys.astype("uint8"))
+        self.wrong(TypeError, ["palette: numpy.ndarray given, which does not say"], grid, palette=rgba.reshape(-1))
+        self.wrong(TypeError, ["palette[0]: "], grid, palette=greys / 255)
+        self.wrong(TypeError, ["palette[0]: "], grid, palette=greys > 3)
+        self.wrong(TypeError, ["palette: numpy.ndarray with items 'O'"], grid, palette=greys.astype(object))
+        self.wrong(ValueError, ["palette[255]: 256 is not in 0 .. 255"], grid, palette=greys + 1)
+        self.wrong(ValueError, ["palette[0]: 5 numbers given"], grid, palette=numpy.zeros((4, 5), dtype="uint8"))
+
+    def test_numbers_and_flags(self):
+        self.wrong(TypeError, ["width: ", "numpy.float64"], b"\0", numpy.float64(1), 1, palette=GREYS)
+        self.wrong(TypeError, ["width: ", "bool"], b"\0", numpy.bool_(True), 1, palette=GREYS)
+        self.wrong(TypeError, ["options.top_down: ", "True or False"], b"\0", 1, 1, palette=GREYS,
+                   options=EncodeOptions(top_down=numpy.bool_(True)))
+        masks = numpy.array([0xF800, 0x7E0, 0x1F, 0])
+        self.assertEqual(encode(b"abc", 1, 1, "Rgb24", options=EncodeOptions(bitfields=Bitfields(16, masks))),
+                         encode(b"abc", 1, 1, "Rgb24", options=EncodeOptions(bitfields=Bitfields(16, (0xF800, 0x7E0, 0x1F, 0)))))
+
+
+class Palettes(Case):
+    def table(self, **given):
+        """The colour table's bytes: blue, green, red, 0 of each entry."""
+        file, _ = encode(b"\0", 1, 1, "Pal8", options=EncodeOptions(minimal_palette=True), **given)
+        return file[54:int.from_bytes(file[10:14], "little")]
+
+    def test_the_same_palette_in_all_ways(self):
+        three, four, raw = [(1, 2, 3), (4, 5, 6)], [(1, 2, 3, 255), (4, 5, 6, 255)], bytes([1, 2, 3, 255, 4, 5, 6, 255])
+        want = bytes([3, 2, 1, 0, 6, 5, 4, 0])
+        for palette in (three, tuple(three), [list(e) for e in three], four, [three[0], four[1]],
+                        memoryview(bytes([1, 2, 3, 4, 5, 6])).cast("B", (2, 3)), memoryview(raw).cast("B", (2, 4))):
+            self.assertEqual(self.table(palette=palette), want)
+        for palette in (raw, bytearray(raw), memoryview(raw), memoryview(raw).cast("B", (2, 4)), array.array("B", raw)):
+            self.assertEqual(self.table(palette_rgba=palette), want)
+
+    def test_alpha_is_what_was_said(self):
+        self.assertEqual(bmp_writer._entries([(1, 2, 3), (4, 5, 6, 7)]), bytes([1, 2, 3, 255, 4, 5, 6, 7]))
+
+    def test_bytes_as_palette(self):
+        pillows = bytes(v for shade in range(256) for v in (shade, shade, shade))
+        for kind in (bytes, bytearray, memoryview, lambda b: array.array("B", b)):
+            for raw in (pillows, b"", b"\0" * 1024):
+                self.wrong(TypeError, ["palette: ", "palette_rgba= for bytes that are red, green, blue, alpha"], b"\0", 1, 1,
+                           "Pal8", palette=kind(raw))
+        self.wrong(TypeError, ["palette[0]: 0 is of type int; (red, green, blue)"], b"\0", 1, 1, "Pal8", palette=list(pillows))
+
+    def test_other_things_as_palette(self):
+        for value in (4, "abc", {(1, 2, 3): 0}, {(1, 2, 3)}, iter([(1, 2, 3)]), object()):
+            self.wrong(TypeError, ["palette: ", "a sequence of (red, green, blue)"], b"\0", 1, 1, "Pal8", palette=value)
+        for entry in (4, 4.0, None, "abc", b"abc", {1, 2, 3}):
+            self.wrong(TypeError, ["palette[1]: ", "(red, green, blue) or (red, green, blue, alpha)"], b"\0", 1, 1, "Pal8",
+                       palette=[(0, 0, 0), entry])
+        for entry in ((1.0, 2, 3), (1, 2, "3"), (True, 2, 3), (1, 2, 3, None)):
+            self.wrong(TypeError, ["palette[1]: ", "an int is needed"], b"\0", 1, 1, "Pal8", palette=[(0, 0, 0), entry])
+        for entry in ((), (1, 2), (1, 2, 3, 4, 5), (1, 2, 256), (-1, 2, 3)):
+            self.wrong(ValueError, ["palette[1]: "], b"\0", 1, 1, "Pal8", palette=[(0, 0, 0), entry])
+        self.wrong(ValueError, ["palette and palette_rgba: both given"], b"\0", 1, 1, "Pal8", palette=GREYS, palette_rgba=b"")
+
+
+class Numbers(Case):
+    def test_sizes(self):
+        for name, low, high in (("width", 0, 2 ** 32 - 1), ("height", 0, 2 ** 32 - 1), ("stride", 0, 2 ** 64 - 1)):
+            given = {"width": 1, "height": 1, "stride": 1}
+            for value in (low - 1, high + 1, 2 ** 70):
+                self.wrong(ValueError, [f"{name}: {value} is not in {low} .. {high}"], b"\0", palette=GREYS,
+                           **{**given, name: value})
+            for value in (1.0, "1", True, [1], b"1"):
+                self.wrong(TypeError, [f"{name}: ", f"{type(value).__name__}; an int is needed"], b"\0", palette=GREYS,
+                           **{**given, name: value})
+
+    def test_flags(self):
+        for name in ("top_down", "minimal_palette", "rle", "embed_icc"):
+            for value in ("no", "", 1, 0, None, [], 1.0):
+                self.wrong(TypeError, [f"options.{name}: {value!r} is of type {type(value).__name__}; True or False is needed"],
+                           b"\0", 1, 1, palette=GREYS, options=EncodeOptions(**{name: value}))
+
+    def test_options(self):
+        def wrong(kind, text, **fields):
+            self.wrong(kind, [text], b"\0\0\0", 1, 1, "Rgb24", options=EncodeOptions(**fields))
+
+        for value in ({}, 0, False, "rle", EncodeOptions):
+            self.wrong(TypeError, ["options: ", "EncodeOptions is needed"], b"\0", 1, 1, palette=GREYS, options=value)
+        wrong(ValueError, "options.rendering_intent: -1 is not in", rendering_intent=-1)
+        wrong(TypeError, "options.rendering_intent: '4'", rendering_intent="4")
+        wrong(TypeError, "options.rendering_intent: None", rendering_intent=None)
+        wrong(TypeError, "options.bitfields: tuple given; Bitfields is needed", bitfields=(16, (1, 2, 4, 0)))
+        wrong(TypeError, "options.bitfields.bpp: 16.0", bitfields=Bitfields(16.0, (1, 2, 4, 0)))
+        wrong(ValueError, "options.bitfields.bpp: 65552 is not in", bitfields=Bitfields(65552, (1, 2, 4, 0)))
+        wrong(ValueError, "options.bitfields.masks: 3 given; 4 are needed", bitfields=Bitfields(16, (1, 2, 4)))
+        wrong(ValueError, "options.bitfields.masks: 5 given; 4 are needed", bitfields=Bitfields(16, (1, 2, 4, 8, 16)))
+        wrong(ValueError, "options.bitfields.masks[1]: 4294967296 is not in", bitfields=Bitfields(16, (1, 2 ** 32, 4, 0)))
+        wrong(TypeError, "options.bitfields.masks[3]: False", bitfields=Bitfields(16, (1, 2, 4, False)))
+        wrong(TypeError, "options.bitfields.masks: b'abcd'", bitfields=Bitfields(16, b"abcd"))
+        wrong(TypeError, "options.bitfields.masks: {", bitfields=Bitfields(16, {1, 2, 4, 0}))
+        wrong(TypeError, "options.bitfields.masks: 7", bitfields=Bitfields(16, 7))
+        wrong(TypeError, "options.calibrated_rgb: list given; CalibratedRgb is needed", calibrated_rgb=[0] * 12)
+        wrong(ValueError, "options.calibrated_rgb.endpoints: 8 given; 9 are needed",
+              calibrated_rgb=CalibratedRgb([0] * 8, [0] * 3))
+        wrong(ValueError, "options.calibrated_rgb.gamma: 4 given; 3 are needed", calibrated_rgb=CalibratedRgb([0] * 9, [0] * 4))
+        wrong(ValueError, "options.calibrated_rgb.endpoints[8]: 2147483648 is not in -2147483648 .. 2147483647",
+              calibrated_rgb=CalibratedRgb([0] * 8 + [2 ** 31], [0] * 3))
+        wrong(ValueError, "options.calibrated_rgb.gamma[0]: -1 is not in", calibrated_rgb=CalibratedRgb([0] * 9, [-1, 0, 0]))
+        wrong(TypeError, "options.calibrated_rgb.gamma[2]: 2.2", calibrated_rgb=CalibratedRgb([0] * 9, [0, 0, 2.2]))
+
+
+class Errors(unittest.TestCase):
+    def test_a_value_error_with_number_and_text(self):
+        error = BmpError(12)
+        self.assertIsInstance(error, ValueError)
+        self.assertEqual((error.number, error.text), (12, "the plane is shorter than stride times height"))
+        self.assertEqual(str(error), "12: the plane is shorter than stride times height")
+        self.assertEqual(str(BmpError(99)), "99: unknown refusal number")
+
+    def test_copies(self):
+        for number in list(bmp_writer.REFUSALS) + [99]:
+            error = BmpError(number)
+            copies = [pickle.loads(pickle.dumps(error, protocol)) for protocol in range(pickle.HIGHEST_PROTOCOL + 1)]
+            for other in copies + [copy.copy(error), copy.deepcopy(error)]:
+                self.assertIs(type(other), BmpError)
+                self.assertEqual((other.args, other.number, other.text, str(other)), ((number,), number, error.text, str(error)))
+
+    def test_a_refusal_in_a_pool_comes_back(self):
+        with multiprocessing.get_context("spawn").Pool(1) as pool:
+            with self.assertRaises(BmpError) as caught:
+                pool.apply_async(encode, (b"\0", 1, 1, "Pal8")).get(timeout=60)
+            self.assertEqual(caught.exception.number, 3)
+            options = EncodeOptions(minimal_palette=True)
+            made = pool.apply_async(encode, (b"\7" * 5, 5, 1), {"palette": [], "options": options})
+            self.assertEqual(made.get(timeout=60), (M12, "Rle8"))
+
+    def test_the_texts_are_those_of_the_header(self):
+        header = read("../c/bmp_writer.h")
+        for text in bmp_writer.REFUSALS.values():
+            self.assertIn(f'"{text}"', header)
+
+
+class Package(unittest.TestCase):
+    def test_names(self):
+        for name in bmp_writer.__all__:
+            self.assertTrue(hasattr(bmp_writer, name))
+        public = {name for name, value in vars(bmp_writer).items() if getattr(value, "__module__", None) == "bmp_writer"}
+        self.assertEqual({name for name in public if not name.startswith("_")} - set(bmp_writer.__all__), set())
+
+    def test_one_version(self):
+        self.assertEqual(bmp_writer.__version__, read("../../VERSION").strip())
+        self.assertIn(f'\nversion = "{bmp_writer.__version__}"\n', read("pyproject.toml"))
+
+    def test_a_missing_library(self):
+        call = "import bmp_writer; print('imported'); bmp_writer.encode(b'\\0', 1, 1, 'Pal8', palette=[])"
+        with tempfile.TemporaryDirectory() as folder:
+            with open(os.path.join(folder, "bmp_writer.py"), "w", encoding="utf-8") as file:
+                file.write(read("bmp_writer.py"))
+            wrong = {"bogus": os.path.join(folder, "nowhere.so"), "text": os.path.join(HERE, "example.py")}
+            for case, named in (("missing", {}), ("missing", {"BMP_WRITER_LIBRARY": wrong["bogus"]}),
+                                ("cannot be used", {"BMP_WRITER_LIBRARY": wrong["text"]})):
+                said = python(call, folder, **named).stdout
+                self.assertTrue(said.startswith("imported\n"), said)
+                for piece in ("ImportError: the library ", case, BUILD, "BMP_WRITER_LIBRARY", *named.values()):
+                    self.assertIn(piece, said)
+
+    def test_a_wheel_without_a_library(self):
+        with tempfile.TemporaryDirectory() as folder:
+            ran = python("import wheel_backend; wheel_backend.build_wheel('.')", folder, PYTHONPATH=HERE,
+                         BMP_WRITER_LIBRARY=os.path.join(folder, "nowhere.so"))
+            self.assertEqual(ran.returncode, 1)
+            self.assertIn(BUILD, ran.stdout)
+            self.assertNotIn("Traceback", ran.stdout)
+            self.assertEqual(os.listdir(folder), [])
+
+    def test_the_installed_package_has_its_library(self):
+        with tempfile.TemporaryDirectory() as folder:
+            target, library = os.path.join(folder, "target"), os.path.abspath(bmp_writer._library_path())
+            before = files_below(HERE)
+            pip = [sys.executable, "-m", "pip", "--disable-pip-version-check", "install", "--no-index", "--target", target, HERE]
+            if subprocess.run(pip[:3] + ["--version"], stdout=subprocess.DEVNULL, stderr=subprocess.DEVNULL).returncode != 0:
+                self.skipTest("pip is not installed")
+            # Empty is not set: bytecode is written, as from a caller's own shell, and none may stay in the checkout.
+            ran = subprocess.run(pip, cwd=folder, env=environment(BMP_WRITER_LIBRARY=library, PYTHONDONTWRITEBYTECODE=""),
+                                 stdout=subprocess.PIPE, stderr=subprocess.STDOUT, universal_newlines=True, timeout=300)
+            self.assertEqual(ran.returncode, 0, ran.stdout)
+            self.assertEqual(files_below(HERE), before)
+            installed = {name for name in os.listdir(os.path.join(target, "bmp_writer")) if name != "__pycache__"}
+            self.assertEqual(installed, {"__init__.py", "py.typed", "libbmp_writer.so"})
+            info = os.path.join(target, f"bmp_writer-{bmp_writer.__version__}.dist-info")
+            with open(os.path.join(info, "NOTICE"), encoding="utf-8") as file:
+                self.assertEqual(file.read(), read("../../NOTICE"))
+            with open(os.path.join(info, "METADATA"), encoding="utf-8") as file:
+                self.assertTrue(re.search(rf"^Version: {re.escape(bmp_writer.__version__)}$", file.read(), re.MULTILINE))
+            call = ("import bmp_writer as b; "
+                    "f, w = b.encode(b'\\7' * 5, 5, 1, palette=[], options=b.EncodeOptions(minimal_palette=True)); "
+                    "print(f.hex(), w, b._lib()._name)")
+            ran = python(call, folder, PYTHONPATH=target)
+            self.assertEqual(ran.stdout.split(), [M12.hex(), "Rle8", os.path.join(target, "bmp_writer", "libbmp_writer.so")])
+
+
+if __name__ == "__main__":
+    unittest.main()

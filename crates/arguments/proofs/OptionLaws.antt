@@ -1,7 +1,7 @@
 -- Laws of the options at a place of a command's text.
 use mathlib.Core.Path.{_≡_, refl, sym, ap, _∙_}
 use mathlib.Core.Logic.{_⊎_, inl, inr}
-use mathlib.Core.Bool.{Bool, true, false, cond}
+use mathlib.Core.Bool.{Bool, true, false, cond, not}
 use mathlib.Core.List.{List, [], _∷_}
 use Prim.Native.Nat.{ℕ, _+_, _≤_, _<_}
 use native.Mathlib.Omega.{arith}
@@ -9,7 +9,7 @@ use borrow.Author.Tests.{ltb-true, ltb-false, eq-eqb, ne-eqb}
 use lib.Dec.{eqb, ltb}
 use lib.ListN.{length, drop}
 use Rattle.arguments.specs.Words.{upTo, itemAt, wordsOf}
-use Rattle.arguments.specs.Options.{optionNamed, standsAlone, optionsIn, first, second, isNone, lastOf, lastGiven, faultAt, firstOf, firstFault}
+use Rattle.arguments.specs.Options.{optionNamed, isWhole, optionsIn, first, second, isNone, lastOf, lastGiven, faultAt, firstOf, firstFault}
 use Rattle.arguments.proofs.Pieces.{first-word, words-end, words-at, up-end}
 
 pub is-some : (text : List ℕ) (at : ℕ) → at < length text → isNone (wordsOf (drop at text)) ≡ false
@@ -18,13 +18,13 @@ is-some text at inside = rw (words-at text at inside)
 
 -- ---- from one option to the next
 
-alone : (w : List ℕ) (ws : List (List ℕ)) → (standsAlone (optionNamed w) ≡ true) ⊎ (ws ≡ []) → optionsIn (w ∷ ws) ≡ (w ∷ ws) ∷ optionsIn ws
+alone : (w : List ℕ) (ws : List (List ℕ)) → (isWhole w ≡ true) ⊎ (ws ≡ []) → optionsIn (w ∷ ws) ≡ (w ∷ ws) ∷ optionsIn ws
 unfolding optionsIn
 alone w [] h = refl
 alone w (v ∷ ws) (inl e) = rw e
 alone w (v ∷ ws) (inr e) = let z : ⊥ = omega (arith, ap length e) in absurd z
 
-with-value : (w v : List ℕ) (ws : List (List ℕ)) → standsAlone (optionNamed w) ≡ false → optionsIn (w ∷ v ∷ ws) ≡ (w ∷ v ∷ ws) ∷ optionsIn ws
+with-value : (w v : List ℕ) (ws : List (List ℕ)) → isWhole w ≡ false → optionsIn (w ∷ v ∷ ws) ≡ (w ∷ v ∷ ws) ∷ optionsIn ws
 unfolding optionsIn
 with-value w v ws e = rw e
 
@@ -41,21 +41,42 @@ module _ (text : List ℕ) (at next : ℕ) (after : next ≡ at + length (upTo 0
           let k : length text ≤ next = omega arith in
           rw (words-end text at h, up-end 0 text next k)
 
+  -- whether words follow the first
+  pub none-behind : length text ≤ next → isNone (drop 1 (wordsOf (drop at text))) ≡ true
+  unfolding isNone
+  none-behind h = go (ltb at (length text)) refl
+    where
+      go : (b : Bool) → ltb at (length text) ≡ b → isNone (drop 1 (wordsOf (drop at text))) ≡ true
+      go true q = rw (words-at text at (ltb-true at (length text) q), ← after, words-end text next h)
+      go false q = rw (words-end text at (ltb-false at (length text) q))
+
+  pub some-behind : next < length text → isNone (drop 1 (wordsOf (drop at text))) ≡ false
+  some-behind h =
+      let inside : at < length text = omega arith in
+      rw (words-at text at inside, ← after) (is-some text next h)
+
+  pub followed : not (isNone (drop 1 (wordsOf (drop at text)))) ≡ ltb next (length text)
+  followed = go (ltb next (length text)) refl
+    where
+      go : (b : Bool) → ltb next (length text) ≡ b → not (isNone (drop 1 (wordsOf (drop at text)))) ≡ ltb next (length text)
+      go true q = rw (q, some-behind (ltb-true next (length text) q))
+      go false q = rw (q, none-behind (ltb-false next (length text) q))
+
   module _ (inside : at < length text) where
     -- the words from a place on
     pub words-next : wordsOf (drop at text) ≡ upTo 0 (drop at text) ∷ wordsOf (drop next text)
     words-next = rw after (words-at text at inside)
 
-    pub after-alone : (standsAlone (optionNamed (upTo 0 (drop at text))) ≡ true) ⊎ (length text ≤ next)
+    pub after-alone : (isWhole (upTo 0 (drop at text)) ≡ true) ⊎ (length text ≤ next)
         → optionsIn (wordsOf (drop at text)) ≡ wordsOf (drop at text) ∷ optionsIn (wordsOf (drop next text))
     after-alone h = rw words-next (alone (upTo 0 (drop at text)) (wordsOf (drop next text)) (go h))
       where
-        go : (standsAlone (optionNamed (upTo 0 (drop at text))) ≡ true) ⊎ (length text ≤ next)
-            → (standsAlone (optionNamed (upTo 0 (drop at text))) ≡ true) ⊎ (wordsOf (drop next text) ≡ [])
+        go : (isWhole (upTo 0 (drop at text)) ≡ true) ⊎ (length text ≤ next)
+            → (isWhole (upTo 0 (drop at text)) ≡ true) ⊎ (wordsOf (drop next text) ≡ [])
         go (inl e) = inl e
         go (inr l) = inr (words-end text next l)
 
-    pub after-value : (last : ℕ) → last ≡ next + length (upTo 0 (drop next text)) + 1 → standsAlone (optionNamed (upTo 0 (drop at text))) ≡ false
+    pub after-value : (last : ℕ) → last ≡ next + length (upTo 0 (drop next text)) + 1 → isWhole (upTo 0 (drop at text)) ≡ false
         → optionsIn (wordsOf (drop at text)) ≡ wordsOf (drop at text) ∷ optionsIn (wordsOf (drop last text))
     after-value last e n = go (ltb next (length text)) refl
       where

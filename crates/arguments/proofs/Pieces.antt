@@ -2,15 +2,15 @@
 use mathlib.Core.Path.{_≡_, refl, sym, ap, _∙_}
 use mathlib.Core.Bool.{Bool, true, false, cond, _&&_}
 use mathlib.Core.List.{List, [], _∷_}
-use Prim.Native.Nat.{ℕ, suc, _+_, _-_, _≤_, _<_}
-use native.Mathlib.Nat.{not-suc-le-zero, le-of-lt, sub-zero}
+use Prim.Native.Nat.{ℕ, zero, suc, _+_, _-_, _≤_, _<_}
+use native.Mathlib.Nat.{not-suc-le-zero, le-of-suc-le-suc, le-of-lt, sub-zero, suc-add}
 use native.Mathlib.Numerals.{add-one}
 use native.Mathlib.Omega.{arith}
 use borrow.Author.Tests.{eq-eqb, ne-eqb, eqb-true, eqb-false, le-leb, leb-false}
 use lib.Dec.{eqb, leb}
 use lib.ListN.{length, getD, take, drop, drop-of-length-le, length-drop}
 use lib.Seq.{drop-cons, drop-drop, take-all}
-use Rattle.arguments.specs.Words.{upTo, onto, pieces, wordsOf, itemsOf, itemAt, alike, placeAmong}
+use Rattle.arguments.specs.Words.{upTo, onto, pieces, wordsOf, itemsOf, itemAt, alike, lowered, byteIn, inCase, placeAmong}
 
 -- one number more that it is not
 pub above : (k n : ℕ) → k ≤ n → (n ≡ k → ⊥) → k + 1 ≤ n
@@ -120,36 +120,72 @@ module _ (mark : ℕ) (text : List ℕ) (at : ℕ) where
     pub later-other : (k : ℕ) → (getD text at 0 ≡ mark → ⊥) → itemAt (itemsOf mark (drop at text)) (suc k) ≡ itemAt (itemsOf mark (drop (at + 1) text)) (suc k)
     later-other k n = ap (λ (ps : List (List ℕ)). itemAt ps (suc k)) (items-other n) ∙ later-onto (getD text at 0) (itemsOf mark (drop (at + 1) text)) k
 
--- ---- words
+-- ---- pieces, each ended by a mark, and words
 
-pub words-first : (x : ℕ) (xs : List ℕ) → wordsOf (x ∷ xs) ≡ upTo 0 (x ∷ xs) ∷ wordsOf (drop (length (upTo 0 (x ∷ xs))) xs)
-unfolding wordsOf pieces upTo onto
-words-first x [] = go (eqb x 0)
-  where
-    go : (b : Bool) → cond b ([] ∷ []) ((x ∷ []) ∷ []) ≡ cond b [] (x ∷ []) ∷ wordsOf (drop (length (cond b [] (x ∷ []))) [])
-    go true = refl
-    go false = refl
-words-first x (y ∷ ys) = go (eqb x 0) (words-first y ys)
-  where
-    go : (b : Bool) → wordsOf (y ∷ ys) ≡ upTo 0 (y ∷ ys) ∷ wordsOf (drop (length (upTo 0 (y ∷ ys))) ys)
-        → cond b ([] ∷ wordsOf (y ∷ ys)) (onto x (wordsOf (y ∷ ys))) ≡ cond b [] (x ∷ upTo 0 (y ∷ ys)) ∷ wordsOf (drop (length (cond b [] (x ∷ upTo 0 (y ∷ ys)))) (y ∷ ys))
-    go true e = refl
-    go false e = ap (onto x) e
+module _ (mark : ℕ) where
+  pieces-first : (x : ℕ) (xs : List ℕ) → pieces mark [] (x ∷ xs) ≡ upTo mark (x ∷ xs) ∷ pieces mark [] (drop (length (upTo mark (x ∷ xs))) xs)
+  unfolding pieces upTo onto
+  pieces-first x [] = go (eqb x mark)
+    where
+      go : (b : Bool) → cond b ([] ∷ []) ((x ∷ []) ∷ []) ≡ cond b [] (x ∷ []) ∷ pieces mark [] (drop (length (cond b [] (x ∷ []))) [])
+      go true = refl
+      go false = refl
+  pieces-first x (y ∷ ys) = go (eqb x mark) (pieces-first y ys)
+    where
+      go : (b : Bool) → pieces mark [] (y ∷ ys) ≡ upTo mark (y ∷ ys) ∷ pieces mark [] (drop (length (upTo mark (y ∷ ys))) ys)
+          → cond b ([] ∷ pieces mark [] (y ∷ ys)) (onto x (pieces mark [] (y ∷ ys)))
+          ≡ cond b [] (x ∷ upTo mark (y ∷ ys)) ∷ pieces mark [] (drop (length (cond b [] (x ∷ upTo mark (y ∷ ys)))) (y ∷ ys))
+      go true e = refl
+      go false e = ap (onto x) e
+
+  module _ (text : List ℕ) (at : ℕ) where
+    pub pieces-end : length text ≤ at → pieces mark [] (drop at text) ≡ []
+    unfolding pieces
+    pieces-end h = rw (drop-of-length-le text h)
+
+    -- the piece at a place, and those after it
+    pub pieces-at : at < length text → pieces mark [] (drop at text) ≡ upTo mark (drop at text) ∷ pieces mark [] (drop (at + length (upTo mark (drop at text)) + 1) text)
+    pieces-at h =
+        let r = length (upTo mark (drop at text)) in
+        let e : drop at text ≡ getD text at 0 ∷ drop (at + 1) text = split text at h in
+        let n : at + 1 + r ≡ at + r + 1 = omega arith in
+        let d : drop r (drop (at + 1) text) ≡ drop (at + r + 1) text = drop-drop r (at + 1) text ∙ ap (λ (k : ℕ). drop k text) n in
+        let f = pieces-first (getD text at 0) (drop (at + 1) text) in
+        (rw (← e, d) at f)
 
 module _ (text : List ℕ) (at : ℕ) where
   pub words-end : length text ≤ at → wordsOf (drop at text) ≡ []
-  unfolding wordsOf pieces
-  words-end h = rw (drop-of-length-le text h)
+  unfolding wordsOf
+  words-end = pieces-end 0 text at
 
-  -- the word at a place, and those after it
   pub words-at : at < length text → wordsOf (drop at text) ≡ upTo 0 (drop at text) ∷ wordsOf (drop (at + length (upTo 0 (drop at text)) + 1) text)
-  words-at h =
-      let r = length (upTo 0 (drop at text)) in
-      let e : drop at text ≡ getD text at 0 ∷ drop (at + 1) text = split text at h in
-      let n : at + 1 + r ≡ at + r + 1 = omega arith in
-      let d : drop r (drop (at + 1) text) ≡ drop (at + r + 1) text = drop-drop r (at + 1) text ∙ ap (λ (k : ℕ). drop k text) n in
-      let f = words-first (getD text at 0) (drop (at + 1) text) in
-      (rw (← e, d) at f)
+  unfolding wordsOf
+  words-at = pieces-at 0 text at
+
+-- ---- items at a place
+
+module _ (mark : ℕ) where
+  -- the first item, where a mark ends it and where the text does
+  pub items-more : (xs : List ℕ) → length (upTo mark xs) < length xs → itemsOf mark xs ≡ upTo mark xs ∷ itemsOf mark (drop (length (upTo mark xs) + 1) xs)
+  unfolding itemsOf pieces onto upTo
+  items-more [] h = absurd (not-suc-le-zero h)
+  items-more (x ∷ xs) h = go (eqb x mark) h (items-more xs)
+    where
+      go : (b : Bool) → length (cond b [] (x ∷ upTo mark xs)) < suc (length xs)
+          → (length (upTo mark xs) < length xs → itemsOf mark xs ≡ upTo mark xs ∷ itemsOf mark (drop (length (upTo mark xs) + 1) xs))
+          → cond b ([] ∷ itemsOf mark xs) (onto x (itemsOf mark xs)) ≡ cond b [] (x ∷ upTo mark xs) ∷ itemsOf mark (drop (length (cond b [] (x ∷ upTo mark xs)) + 1) (x ∷ xs))
+      go true k f = refl
+      go false k f = rw (suc-add (length (upTo mark xs)) 1) (ap (onto x) (f (le-of-suc-le-suc k)))
+
+  pub items-last : (xs : List ℕ) → length xs ≤ length (upTo mark xs) → itemsOf mark xs ≡ upTo mark xs ∷ []
+  unfolding itemsOf pieces onto upTo
+  items-last [] h = refl
+  items-last (x ∷ xs) h = go (eqb x mark) h (items-last xs)
+    where
+      go : (b : Bool) → suc (length xs) ≤ length (cond b [] (x ∷ upTo mark xs)) → (length xs ≤ length (upTo mark xs) → itemsOf mark xs ≡ upTo mark xs ∷ [])
+          → cond b ([] ∷ itemsOf mark xs) (onto x (itemsOf mark xs)) ≡ cond b [] (x ∷ upTo mark xs) ∷ []
+      go true k f = absurd (not-suc-le-zero k)
+      go false k f = ap (onto x) (f (le-of-suc-le-suc k))
 
 -- ---- texts that are alike
 
@@ -183,6 +219,21 @@ module _ (a b : List ℕ) (i : ℕ) (long : length a ≡ length b) where
 
     pub unlike : (getD a i 0 ≡ getD b i 0 → ⊥) → alike (drop i a) (drop i b) ≡ false
     unlike n = rw (alike-here, ne-eqb (getD a i 0) (getD b i 0) n)
+
+-- ---- a name in any case
+
+pub length-case : (any : Bool) (name : List ℕ) → length (inCase any name) ≡ length name
+unfolding inCase
+length-case false name = refl
+length-case true [] = refl
+length-case true (x ∷ xs) = ap suc (length-case true xs)
+
+pub byte-case : (any : Bool) (name : List ℕ) (i : ℕ) → i < length name → getD (inCase any name) i 0 ≡ byteIn any (getD name i 0)
+unfolding inCase byteIn
+byte-case false name i h = refl
+byte-case true [] i h = absurd (not-suc-le-zero h)
+byte-case true (x ∷ xs) zero h = refl
+byte-case true (x ∷ xs) (suc i) h = byte-case true xs i (le-of-suc-le-suc h)
 
 -- ---- parts of a text
 

@@ -1,11 +1,11 @@
 -- A command's options, and what they ask for together.
 use mathlib.Core.Bool.{Bool, true, false, cond, not, _&&_, _||_}
 use mathlib.Core.List.{List, [], _∷_, map}
-use Prim.Native.Nat.{ℕ, _*_}
+use Prim.Native.Nat.{ℕ, _+_, _*_}
 use Prim.Native.String.{String}
 use lib.Dec.{eqb, ltb, leb}
 use lib.IntN.{ℤ}
-use lib.ListN.{getD}
+use lib.ListN.{length, getD, drop}
 use Rattle.leaves.specs.declared.bitfields.BmpBitfields.{BmpBitfields}
 use Rattle.leaves.specs.declared.encoder.EncodeSource.{EncodeSource}
 use Rattle.leaves.specs.declared.image.BmpPixelFormat.{BmpPixelFormat}
@@ -14,12 +14,12 @@ use Rattle.leaves.specs.declared.options.CalibratedRgb.{CalibratedRgb}
 use Rattle.leaves.specs.declared.options.EncodeOptions.{EncodeOptions}
 use Rattle.leaves.specs.Formats.{bytesPerPixel}
 use Rattle.leaves.specs.Texts.{bytesOf}
-use Rattle.arguments.specs.Words.{itemsOf, itemAt, placeAmong}
+use Rattle.arguments.specs.Words.{upTo, itemsOf, itemAt, inCase, placeAmong}
 use Rattle.arguments.specs.Numbers.{numberOf, isNumber, isNumber32, number16, number32, signed32, areNumbers}
 
 -- ---- the options by number
 
--- The first four stand alone, and each of the others has a value behind it.
+-- The first ten stand alone, and each of the others has a value: the word behind it, or what follows a = in its own word.
 unfoldable pub optionNames : List (List ℕ)
 optionNames =
     map bytesOf
@@ -27,6 +27,12 @@ optionNames =
     ∷ "--minimal-palette"
     ∷ "--no-rle"
     ∷ "--no-embed-icc"
+    ∷ "--more-follows"
+    ∷ "--sample-palette"
+    ∷ "--help"
+    ∷ "-h"
+    ∷ "--version"
+    ∷ "--"
     ∷ "--format"
     ∷ "--width"
     ∷ "--height"
@@ -35,24 +41,40 @@ optionNames =
     ∷ "--bitfields"
     ∷ "--calibrated-rgb"
     ∷ "--plane"
+    ∷ "--csv"
     ∷ "--palette"
     ∷ "--icc"
     ∷ "--linked-icc"
     ∷ "--out"
     ∷ [])
 
--- an option's number; 16 for any other word
+-- the number of the option that a word names before its =; 23 for any other word
 unfoldable pub optionNamed : List ℕ → ℕ
-optionNamed = placeAmong optionNames
+optionNamed w = placeAmong optionNames (upTo 61 w)
+
+-- the number of the option that is so called
+abbrev pub numbered : String → ℕ
+numbered name = optionNamed (bytesOf name)
 
 unfoldable pub standsAlone : ℕ → Bool
-standsAlone option = leb option 3
+standsAlone option = leb option 9
+
+-- whether a word has a =, and what follows it
+unfoldable pub carriesValue : List ℕ → Bool
+carriesValue w = ltb (length (upTo 61 w)) (length w)
+
+unfoldable pub carried : List ℕ → List ℕ
+carried w = drop (length (upTo 61 w) + 1) w
+
+-- whether an option is one word
+unfoldable pub isWhole : List ℕ → Bool
+isWhole w = standsAlone (optionNamed w) || carriesValue w
 
 -- the words from each option on
 unfoldable pub optionsIn : List (List ℕ) → List (List (List ℕ))
 optionsIn [] = []
 optionsIn (w ∷ []) = (w ∷ []) ∷ []
-optionsIn (w ∷ v ∷ ws) = (w ∷ v ∷ ws) ∷ cond (standsAlone (optionNamed w)) (optionsIn (v ∷ ws)) (optionsIn ws)
+optionsIn (w ∷ v ∷ ws) = (w ∷ v ∷ ws) ∷ cond (isWhole w) (optionsIn (v ∷ ws)) (optionsIn ws)
 
 -- the first word, and the second; empty where there is none
 unfoldable pub first : List (List ℕ) → List ℕ
@@ -80,27 +102,36 @@ lastGiven option ws = lastOf option (optionsIn ws)
 unfoldable pub isGiven : ℕ → List (List ℕ) → Bool
 isGiven option ws = not (isNone (lastGiven option ws))
 
--- the word behind an option; empty where there is none
+-- the value of the option that words begin with; empty where there is none
+unfoldable pub valueIn : List (List ℕ) → List ℕ
+valueIn ws = cond (carriesValue (first ws)) (carried (first ws)) (second ws)
+
 unfoldable pub valueOf : ℕ → List (List ℕ) → List ℕ
-valueOf option ws = second (lastGiven option ws)
+valueOf option ws = valueIn (lastGiven option ws)
 
 -- ---- layouts by name
 
+-- as the original spells them, here in lower case; a name may be written in any
 unfoldable pub formatNames : List (List ℕ)
 formatNames =
     map bytesOf ("rgba" ∷ "rgb24" ∷ "bgra" ∷ "bgr24" ∷ "rgb555" ∷ "rgb565" ∷ "indexed4" ∷ "indexed2" ∷ "indexed1" ∷ "pal8" ∷ [])
 
+-- the number of the layout that is so called; 10 where none is
+unfoldable pub formatNumbered : List ℕ → ℕ
+formatNumbered name = placeAmong formatNames (inCase true name)
+
 unfoldable pub isFormat : List ℕ → Bool
-isFormat name = ltb (placeAmong formatNames name) 10
+isFormat name = ltb (formatNumbered name) 10
 
 -- the layout that is so called; Pal8 where none is
 unfoldable pub formatNamed : List ℕ → BmpPixelFormat
 formatNamed name =
-    getD (Rgba ∷ Rgb24 ∷ Bgra ∷ Bgr24 ∷ Rgb555 ∷ Rgb565 ∷ Indexed4 ∷ Indexed2 ∷ Indexed1 ∷ []) (placeAmong formatNames name) Pal8
+    getD (Rgba ∷ Rgb24 ∷ Bgra ∷ Bgr24 ∷ Rgb555 ∷ Rgb565 ∷ Indexed4 ∷ Indexed2 ∷ Indexed1 ∷ []) (formatNumbered name) Pal8
 
 -- ---- what is not understood, by number
 
--- 0 is understood, 1 no option, 2 no value, 3 no number, 4 no layout, 5 no masks, 6 no calibrated colour
+-- 0 is understood, 1 no option, 2 no value, 3 no number of 32 bits, 4 no layout, 5 no masks, 6 no calibrated colour, 7 no stride, 8 a value
+-- where none is taken, 9 a word behind --
 unfoldable pub unless : Bool → ℕ → ℕ
 unless good fault = cond good 0 fault
 
@@ -108,24 +139,34 @@ unless good fault = cond good 0 fault
 unfoldable pub areMasks : List ℕ → Bool
 areMasks list = areNumbers 5 0 list && leb (numberOf (itemAt (itemsOf 44 list) 0)) 0xFFFF
 
--- the number of the option that is so called
-abbrev pub numbered : String → ℕ
-numbered name = optionNamed (bytesOf name)
+-- of a file's name
+unfoldable pub faultOfName : ℕ → List ℕ → ℕ
+faultOfName option name = cond (leb (numbered "--plane") option && leb option (numbered "--out")) (unless (ltb 0 (length name)) 2) 1
 
+-- of an option's value
 unfoldable pub faultOf : ℕ → List ℕ → ℕ
 faultOf option value =
     cond (eqb option (numbered "--format")) (unless (isFormat value) 4)
-    (cond (eqb option (numbered "--width") || eqb option (numbered "--height") || eqb option (numbered "--rendering-intent")) (unless (isNumber32 value) 3)
-    (cond (eqb option (numbered "--stride")) (unless (isNumber value) 3)
+    (cond (eqb option (numbered "--width") || (eqb option (numbered "--height") || eqb option (numbered "--rendering-intent"))) (unless (isNumber32 value) 3)
+    (cond (eqb option (numbered "--stride")) (unless (isNumber value) 7)
     (cond (eqb option (numbered "--bitfields")) (unless (areMasks value) 5)
-    (cond (eqb option (numbered "--calibrated-rgb")) (unless (areNumbers 12 9 value) 6)
-    (cond (leb (numbered "--plane") option && leb option (numbered "--out")) 0 1)))))
+    (cond (eqb option (numbered "--calibrated-rgb")) (unless (areNumbers 12 9 value) 6) (faultOfName option value)))))
+
+-- of an option that stands alone: it takes no value, and -- ends the command, which takes options only
+unfoldable pub faultAlone : ℕ → Bool → Bool → ℕ
+faultAlone option valued followed = cond valued 8 (cond (eqb option (numbered "--") && followed) 9 0)
+
+-- of an option that no word follows
+unfoldable pub faultLast : ℕ → ℕ
+faultLast option = cond (leb option (numbered "--out")) 2 1
 
 -- what is wrong with the option that words begin with
 unfoldable pub faultAt : List (List ℕ) → ℕ
-faultAt [] = 2
-faultAt (w ∷ []) = cond (standsAlone (optionNamed w)) 0 2
-faultAt (w ∷ v ∷ ws) = cond (standsAlone (optionNamed w)) 0 (faultOf (optionNamed w) v)
+faultAt ws =
+    let w = first ws in
+    let option = optionNamed w in
+    cond (standsAlone option) (faultAlone option (carriesValue w) (not (isNone (drop 1 ws))))
+    (cond (carriesValue w) (faultOf option (carried w)) (cond (isNone (drop 1 ws)) (faultLast option) (faultOf option (second ws))))
 
 -- the first that is not understood, of the words from each option on
 unfoldable pub firstOf : List (List (List ℕ)) → List (List ℕ)
@@ -143,16 +184,23 @@ unfoldable pub strideAsked : List (List ℕ) → ℕ → BmpPixelFormat → ℕ
 strideAsked ws width format =
     cond (isGiven (numbered "--stride") ws) (numberOf (valueOf (numbered "--stride") ws)) (bytesPerPixel format * width)
 
+unfoldable pub formatAsked : List (List ℕ) → BmpPixelFormat
+formatAsked ws = formatNamed (valueOf (numbered "--format") ws)
+
+-- a palette from a file, or the sample's
+unfoldable pub hasPalette : List (List ℕ) → Bool
+hasPalette ws = isGiven (numbered "--palette") ws || isGiven (numbered "--sample-palette") ws
+
 unfoldable pub sourceAsked : List (List ℕ) → EncodeSource
 sourceAsked ws =
-    let format = formatNamed (valueOf (numbered "--format") ws) in
+    let format = formatAsked ws in
     let width = number32 (valueOf (numbered "--width") ws) in
     record {
       format = format;
       width = width;
       height = number32 (valueOf (numbered "--height") ws);
       stride = strideAsked ws width format;
-      «has_palette» = isGiven (numbered "--palette") ws;
+      «has_palette» = hasPalette ws;
       «has_icc» = isGiven (numbered "--icc") ws;
       «has_linked_icc» = isGiven (numbered "--linked-icc") ws;
     }

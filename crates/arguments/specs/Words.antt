@@ -1,8 +1,8 @@
 -- What a text is cut into: a command's words, the items of a list.
 use mathlib.Core.Bool.{Bool, true, false, cond, _&&_}
-use mathlib.Core.List.{List, [], _∷_}
-use Prim.Native.Nat.{ℕ, suc}
-use lib.Dec.{eqb}
+use mathlib.Core.List.{List, [], _∷_, map}
+use Prim.Native.Nat.{ℕ, suc, _+_}
+use lib.Dec.{eqb, leb}
 use lib.ListN.{getD}
 
 -- the bytes before the first mark
@@ -37,6 +37,19 @@ alike [] [] = true
 alike [] (y ∷ ys) = false
 alike (x ∷ xs) [] = false
 alike (x ∷ xs) (y ∷ ys) = eqb x y && alike xs ys
+
+-- a capital letter of ASCII as the small one
+unfoldable pub lowered : ℕ → ℕ
+lowered x = cond (leb 65 x && leb x 90) (x + 32) x
+
+-- a byte, and a name: as it is, or in lower case
+unfoldable pub byteIn : Bool → ℕ → ℕ
+byteIn true x = lowered x
+byteIn false x = x
+
+unfoldable pub inCase : Bool → List ℕ → List ℕ
+inCase true xs = map lowered xs
+inCase false xs = xs
 
 -- which item a name is, from 0; how many items there are where it is none
 unfoldable pub placeAmong : List (List ℕ) → List ℕ → ℕ

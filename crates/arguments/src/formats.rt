@@ -2,8 +2,7 @@
 ghost use mathlib.Core.Path.{_≡_};
 ghost use Rattle.leaves.specs.Formats.{writtenName, writtenNames};
 ghost use Rattle.leaves.specs.Texts.{joined};
-ghost use Rattle.arguments.specs.Options.{formatNames, isFormat, formatNamed};
-ghost use Rattle.arguments.specs.Words.{placeAmong};
+ghost use Rattle.arguments.specs.Options.{formatNumbered, isFormat, formatNamed};
 use crate::words::item;
 use crate::words::place_in;
 use leaves::encoder::EncodedBmpFormat;
@@ -11,11 +10,12 @@ use leaves::image::BmpPixelFormat;
 
 // The number of the layout that is so called; 10 where none is.
 fn format_number(name: &[u8]) -> usize
-    ensures { λ r. ⌜ r ≡ placeAmong formatNames (now (name .entry)) ⌝ }
+    ensures { λ r. ⌜ r ≡ formatNumbered (now (name .entry)) ⌝ }
 {
     place_in(
         b"rgba,rgb24,bgra,bgr24,rgb555,rgb565,indexed4,indexed2,indexed1,pal8",
         name,
+        true,
     )
 }
 

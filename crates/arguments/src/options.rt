@@ -5,7 +5,7 @@ ghost use Prim.Native.Nat.{_+_, _*_, _≤_, _<_};
 ghost use lib.ListN.{length, drop};
 ghost use Rattle.leaves.specs.Formats.{bytesPerPixel};
 ghost use Rattle.arguments.specs.Numbers.{number32, signed32};
-ghost use Rattle.arguments.specs.Options.{optionNamed, standsAlone, optionsIn, lastGiven, isGiven, valueOf, unless, areMasks, faultOf, faultAt, firstFault, strideAsked, sourceAsked, masksAsked, calibratedAsked, intentAsked, optionsAsked};
+ghost use Rattle.arguments.specs.Options.{optionNamed, standsAlone, carriesValue, carried, isWhole, optionsIn, lastGiven, isGiven, valueIn, valueOf, unless, areMasks, faultOfName, faultOf, faultAlone, faultLast, faultAt, firstFault, strideAsked, formatAsked, hasPalette, sourceAsked, masksAsked, calibratedAsked, intentAsked, optionsAsked};
 ghost use Rattle.arguments.specs.Words.{upTo, itemsOf, itemAt, wordsOf};
 use crate::formats::format_named;
 use crate::formats::is_format;
@@ -16,8 +16,11 @@ use crate::numbers::number;
 use crate::numbers::number16;
 use crate::numbers::number32;
 use crate::numbers::signed32;
+use crate::words::both;
+use crate::words::either;
 use crate::words::end_of;
 use crate::words::item;
+use crate::words::part;
 use crate::words::piece;
 use crate::words::place_in;
 use leaves::bitfields::BmpBitfields;
@@ -27,38 +30,52 @@ use leaves::options::CalibratedRgb;
 use leaves::options::EncodeOptions;
 use leaves::types::LCS_GM_IMAGES;
 
-// The options by number. The first four stand alone, and each of the others has a value behind it.
+// The options by number. The first ten stand alone, and each of the others has a value.
 const TOP_DOWN: usize = 0;
 
 const MINIMAL_PALETTE: usize = 1;
 
 const NO_RLE: usize = 2;
 
-const NO_EMBED_ICC: usize = 3;
+pub const NO_EMBED_ICC: usize = 3;
 
-const FORMAT: usize = 4;
+pub const MORE_FOLLOWS: usize = 4;
 
-const WIDTH: usize = 5;
+pub const SAMPLE_PALETTE: usize = 5;
 
-const HEIGHT: usize = 6;
+pub const HELP: usize = 6;
 
-const STRIDE: usize = 7;
+pub const SHORT_HELP: usize = 7;
 
-const RENDERING_INTENT: usize = 8;
+pub const VERSION: usize = 8;
 
-const BITFIELDS: usize = 9;
+const END_OF_OPTIONS: usize = 9;
 
-const CALIBRATED_RGB: usize = 10;
+pub const FORMAT: usize = 10;
 
-pub const PLANE: usize = 11;
+pub const WIDTH: usize = 11;
 
-pub const PALETTE: usize = 12;
+pub const HEIGHT: usize = 12;
 
-pub const ICC: usize = 13;
+pub const STRIDE: usize = 13;
 
-pub const LINKED_ICC: usize = 14;
+const RENDERING_INTENT: usize = 14;
 
-pub const OUT: usize = 15;
+const BITFIELDS: usize = 15;
+
+const CALIBRATED_RGB: usize = 16;
+
+pub const PLANE: usize = 17;
+
+pub const CSV: usize = 18;
+
+pub const PALETTE: usize = 19;
+
+pub const ICC: usize = 20;
+
+pub const LINKED_ICC: usize = 21;
+
+pub const OUT: usize = 22;
 
 // Why an option is not understood.
 const UNDERSTOOD: usize = 0;
@@ -75,6 +92,12 @@ const NOT_MASKS: usize = 5;
 
 const NOT_CALIBRATED: usize = 6;
 
+const NO_STRIDE: usize = 7;
+
+const TAKES_NO_VALUE: usize = 8;
+
+const WORD_BEHIND: usize = 9;
+
 // The word that starts at a place.
 pub fn word<'a>(words: &'a [u8], at: usize) -> &'a [u8]
     requires { ⌜ at ≤ length (now words) ⌝ }
@@ -83,21 +106,42 @@ pub fn word<'a>(words: &'a [u8], at: usize) -> &'a [u8]
     piece(words, at, 0)
 }
 
-// The number of the option at a place.
-fn option_at(words: &[u8], at: usize) -> usize
-    requires { ⌜ at ≤ length (now words) ⌝ }
-    ensures { λ r. ⌜ r ≡ optionNamed (upTo 0 (drop at (now (words .entry)))) ⌝ }
+// The number of the option that a word names.
+fn option_named(word: &[u8]) -> usize
+    ensures { λ r. ⌜ r ≡ optionNamed (now (word .entry)) ⌝ }
 {
     let names =
-        b"--top-down,--minimal-palette,--no-rle,--no-embed-icc,--format,--width,--height,--stride,\
-        --rendering-intent,--bitfields,--calibrated-rgb,--plane,--palette,--icc,--linked-icc,--out";
-    place_in(names, word(words, at))
+        b"--top-down,--minimal-palette,--no-rle,--no-embed-icc,--more-follows,--sample-palette,--help,-h,--version,--,\
+        --format,--width,--height,--stride,--rendering-intent,--bitfields,--calibrated-rgb,--plane,--csv,--palette,\
+        --icc,--linked-icc,--out";
+    place_in(names, piece(word, 0, b'='), false)
 }
 
 fn stands_alone(option: usize) -> bool
     ensures { λ r. ⌜ r ≡ standsAlone option ⌝ }
 {
-    option <= NO_EMBED_ICC
+    option <= END_OF_OPTIONS
+}
+
+// Whether a word has a value behind a =.
+fn carries_value(word: &[u8]) -> bool
+    ensures { λ r. ⌜ r ≡ carriesValue (now (word .entry)) ⌝ }
+{
+    end_of(word, 0, b'=') < word.len()
+}
+
+// What stands behind a word's =.
+fn carried<'a>(word: &'a [u8]) -> &'a [u8]
+    ensures { λ r. ⌜ now r ≡ carried (now (word .entry)) ⌝ }
+{
+    part(word, end_of(word, 0, b'=') + 1, word.len())
+}
+
+// Whether an option is one word.
+fn is_whole(word: &[u8]) -> bool
+    ensures { λ r. ⌜ r ≡ isWhole (now (word .entry)) ⌝ }
+{
+    either(stands_alone(option_named(word)), carries_value(word))
 }
 
 // The place after the word at a place.
@@ -114,7 +158,7 @@ fn after_option(words: &[u8], at: usize) -> usize
     ensures { λ r. ⌜ (at + 1 ≤ r) × (at < length (now (words .entry)) → optionsIn (wordsOf (drop at (now (words .entry)))) ≡ wordsOf (drop at (now (words .entry))) ∷ optionsIn (wordsOf (drop r (now (words .entry))))) ⌝ }
 {
     let next = after_word(words, at);
-    if stands_alone(option_at(words, at)) || next > words.len() {
+    if is_whole(word(words, at)) || next > words.len() {
         return next;
     }
     after_word(words, next)
@@ -129,7 +173,7 @@ fn last_given(words: &[u8], option: usize) -> usize
     let mut last = words.len();
     let mut at = 0;
     while at < words.len() {
-        if option_at(words, at) == option {
+        if option_named(word(words, at)) == option {
             last = at;
         }
         at = after_option(words, at);
@@ -143,15 +187,35 @@ pub fn is_given(words: &[u8], option: usize) -> bool
     last_given(words, option) < words.len()
 }
 
+// The name of the option at a place.
+pub fn name_at<'a>(words: &'a [u8], at: usize) -> &'a [u8]
+    requires { ⌜ at ≤ length (now words) ⌝ }
+    ensures { λ r. ⌜ now r ≡ upTo 61 (upTo 0 (drop at (now (words .entry)))) ⌝ }
+{
+    piece(word(words, at), 0, b'=')
+}
+
+// The value of the option at a place; empty where there is none.
+pub fn value_at<'a>(words: &'a [u8], at: usize) -> &'a [u8]
+    requires { ⌜ at ≤ length (now words) ⌝ }
+    ensures { λ r. ⌜ now r ≡ valueIn (wordsOf (drop at (now (words .entry)))) ⌝ }
+{
+    let given = word(words, at);
+    if carries_value(given) {
+        return carried(given);
+    }
+    let next = after_word(words, at);
+    if next > words.len() {
+        return &words[0..0];
+    }
+    word(words, next)
+}
+
 // An option's value; empty where it is not given.
 pub fn value_of<'a>(words: &'a [u8], option: usize) -> &'a [u8]
     ensures { λ r. ⌜ now r ≡ valueOf option (wordsOf (now (words .entry))) ⌝ }
 {
-    let at = after_word(words, last_given(words, option));
-    if at > words.len() {
-        return &words[0..0];
-    }
-    word(words, at)
+    value_at(words, last_given(words, option))
 }
 
 // ---- the check
@@ -168,18 +232,65 @@ fn unless(good: bool, fault: usize) -> usize
     if good { UNDERSTOOD } else { fault }
 }
 
+// What is wrong with a file's name.
+fn fault_of_name(option: usize, name: &[u8]) -> usize
+    ensures { λ r. ⌜ r ≡ faultOfName option (now (name .entry)) ⌝ }
+{
+    if option < PLANE {
+        return UNKNOWN_OPTION;
+    }
+    if option > OUT {
+        return UNKNOWN_OPTION;
+    }
+    unless(name.len() > 0, NO_VALUE)
+}
+
 // What is wrong with an option's value, by number.
 fn fault_of(option: usize, value: &[u8]) -> usize
     ensures { λ r. ⌜ r ≡ faultOf option (now (value .entry)) ⌝ }
 {
-    match option {
-        FORMAT => unless(is_format(value), UNKNOWN_FORMAT),
-        WIDTH | HEIGHT | RENDERING_INTENT => unless(is_number32(value), NO_NUMBER),
-        STRIDE => unless(is_number(value), NO_NUMBER),
-        BITFIELDS => unless(are_masks(value), NOT_MASKS),
-        CALIBRATED_RGB => unless(are_numbers(value, 12, 9), NOT_CALIBRATED),
-        PLANE | PALETTE | ICC | LINKED_ICC | OUT => UNDERSTOOD,
-        _ => UNKNOWN_OPTION,
+    if option == FORMAT {
+        return unless(is_format(value), UNKNOWN_FORMAT);
+    }
+    if either(
+        option == WIDTH,
+        either(option == HEIGHT, option == RENDERING_INTENT),
+    ) {
+        return unless(is_number32(value), NO_NUMBER);
+    }
+    if option == STRIDE {
+        return unless(is_number(value), NO_STRIDE);
+    }
+    if option == BITFIELDS {
+        return unless(are_masks(value), NOT_MASKS);
+    }
+    if option == CALIBRATED_RGB {
+        return unless(are_numbers(value, 12, 9), NOT_CALIBRATED);
+    }
+    fault_of_name(option, value)
+}
+
+// What is wrong with an option that stands alone.
+fn fault_alone(option: usize, valued: bool, followed: bool) -> usize
+    ensures { λ r. ⌜ r ≡ faultAlone option valued followed ⌝ }
+{
+    if valued {
+        return TAKES_NO_VALUE;
+    }
+    if both(option == END_OF_OPTIONS, followed) {
+        return WORD_BEHIND;
+    }
+    UNDERSTOOD
+}
+
+// What is wrong with an option that no word follows.
+fn fault_last(option: usize) -> usize
+    ensures { λ r. ⌜ r ≡ faultLast option ⌝ }
+{
+    if option <= OUT {
+        NO_VALUE
+    } else {
+        UNKNOWN_OPTION
     }
 }
 
@@ -188,13 +299,17 @@ pub fn fault_at(words: &[u8], at: usize) -> usize
     requires { ⌜ at ≤ length (now words) ⌝ }
     ensures { λ r. ⌜ r ≡ faultAt (wordsOf (drop at (now (words .entry)))) ⌝ }
 {
-    let option = option_at(words, at);
-    if stands_alone(option) {
-        return UNDERSTOOD;
-    }
+    let given = word(words, at);
+    let option = option_named(given);
     let next = after_word(words, at);
+    if stands_alone(option) {
+        return fault_alone(option, carries_value(given), next < words.len());
+    }
+    if carries_value(given) {
+        return fault_of(option, carried(given));
+    }
     if next >= words.len() {
-        return NO_VALUE;
+        return fault_last(option);
     }
     fault_of(option, word(words, next))
 }
@@ -232,17 +347,31 @@ fn stride(words: &[u8], width: u32, format: BmpPixelFormat) -> usize
     row_bytes(width, format)
 }
 
+// The plane's layout; Pal8 where none is given.
+pub fn format_asked(words: &[u8]) -> BmpPixelFormat
+    ensures { λ r. ⌜ r ≡ formatAsked (wordsOf (now (words .entry))) ⌝ }
+{
+    format_named(value_of(words, FORMAT))
+}
+
+// A palette from a file, or the sample's.
+pub fn has_palette(words: &[u8]) -> bool
+    ensures { λ r. ⌜ r ≡ hasPalette (wordsOf (now (words .entry))) ⌝ }
+{
+    either(is_given(words, PALETTE), is_given(words, SAMPLE_PALETTE))
+}
+
 pub fn source_asked(words: &[u8]) -> EncodeSource
     ensures { λ r. ⌜ r ≡ sourceAsked (wordsOf (now (words .entry))) ⌝ }
 {
-    let format = format_named(value_of(words, FORMAT));
+    let format = format_asked(words);
     let width = number32(value_of(words, WIDTH));
     EncodeSource {
         format,
         width,
         height: number32(value_of(words, HEIGHT)),
         stride: stride(words, width, format),
-        has_palette: is_given(words, PALETTE),
+        has_palette: has_palette(words),
         has_icc: is_given(words, ICC),
         has_linked_icc: is_given(words, LINKED_ICC),
     }

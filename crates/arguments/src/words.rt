@@ -1,11 +1,11 @@
 // What a text is cut into: a command's words, the items of a list.
 ghost use mathlib.Core.Path.{_≡_};
-ghost use mathlib.Core.Bool.{cond, _&&_};
+ghost use mathlib.Core.Bool.{cond, _&&_, _||_};
 ghost use mathlib.Core.List.{[]};
 ghost use Prim.Native.Nat.{_+_, _-_, _≤_};
 ghost use lib.Dec.{eqb, leb};
 ghost use lib.ListN.{length, take, drop};
-ghost use Rattle.arguments.specs.Words.{upTo, itemsOf, itemAt, alike, placeAmong};
+ghost use Rattle.arguments.specs.Words.{upTo, itemsOf, itemAt, alike, byteIn, inCase, placeAmong};
 
 // The bytes of a slice from one place to another; none where that is no part of it.
 pub fn part<'a>(bytes: &'a [u8], from: usize, to: usize) -> &'a [u8]
@@ -41,20 +41,56 @@ pub(crate) fn piece<'a>(text: &'a [u8], at: usize, mark: u8) -> &'a [u8]
     part(text, at, to)
 }
 
-pub fn same(a: &[u8], b: &[u8]) -> bool
-    ensures { λ r. ⌜ r ≡ alike (now (a .entry)) (now (b .entry)) ⌝ }
+// A byte as it is, or a capital letter of ASCII as the small one.
+fn byte_in(byte: u8, any_case: bool) -> u8
+    ensures { λ r. ⌜ r ≡ byteIn «any_case» byte ⌝ }
 {
-    if a.len() != b.len() {
+    if !any_case {
+        return byte;
+    }
+    if byte < b'A' {
+        return byte;
+    }
+    if byte > b'Z' {
+        return byte;
+    }
+    byte + 32
+}
+
+// Whether a name is a text, or in any case of its letters one of small letters.
+pub fn same_in(text: &[u8], name: &[u8], any_case: bool) -> bool
+    ensures { λ r. ⌜ r ≡ alike (now (text .entry)) (inCase «any_case» (now (name .entry))) ⌝ }
+{
+    if text.len() != name.len() {
         return false;
     }
     let mut i = 0;
-    while i < a.len() {
-        if a[i] != b[i] {
+    while i < text.len() {
+        if text[i] != byte_in(name[i], any_case) {
             return false;
         }
         i += 1;
     }
     true
+}
+
+pub fn same(a: &[u8], b: &[u8]) -> bool
+    ensures { λ r. ⌜ r ≡ alike (now (a .entry)) (now (b .entry)) ⌝ }
+{
+    same_in(a, b, false)
+}
+
+// Whether one of two facts holds, and whether both do.
+pub fn either(a: bool, b: bool) -> bool
+    ensures { λ r. ⌜ r ≡ (a || b) ⌝ }
+{
+    if a { true } else { b }
+}
+
+pub fn both(a: bool, b: bool) -> bool
+    ensures { λ r. ⌜ r ≡ (a && b) ⌝ }
+{
+    if a { b } else { false }
 }
 
 // 1 for the mark, otherwise 0.
@@ -88,7 +124,7 @@ pub fn item<'a>(list: &'a [u8], k: usize, mark: u8) -> &'a [u8]
 }
 
 // How many items a list with a mark between its items has.
-pub(crate) fn items(list: &[u8], mark: u8) -> usize
+pub fn items(list: &[u8], mark: u8) -> usize
     ensures { λ r. ⌜ (r ≡ length (itemsOf mark (now (list .entry)))) × (r ≤ length (now (list .entry)) + 1) ⌝ }
 {
     let mut count: usize = 1;
@@ -101,13 +137,13 @@ pub(crate) fn items(list: &[u8], mark: u8) -> usize
 }
 
 // Which item of a list with commas a name is, from 0; how many items there are where it is none.
-pub(crate) fn place_in(list: &[u8], name: &[u8]) -> usize
-    ensures { λ r. ⌜ r ≡ placeAmong (itemsOf 44 (now (list .entry))) (now (name .entry)) ⌝ }
+pub(crate) fn place_in(list: &[u8], name: &[u8], any_case: bool) -> usize
+    ensures { λ r. ⌜ r ≡ placeAmong (itemsOf 44 (now (list .entry))) (inCase «any_case» (now (name .entry))) ⌝ }
 {
     let count = items(list, b',');
     let mut k = 0;
     while k < count {
-        if same(item(list, k, b','), name) {
+        if same_in(item(list, k, b','), name, any_case) {
             return k;
         }
         k += 1;

@@ -1,19 +1,101 @@
--- Which commands are understood, and what is known of a file that was read.
-use mathlib.Core.Bool.{Bool, _||_}
-use mathlib.Core.List.{List}
-use Prim.Native.Nat.{ℕ, _≤_}
-use Rattle.arguments.specs.Options.{first, isNone, firstFault}
+-- What a command's words alone decide: the status, and the message.
+use mathlib.Core.Bool.{Bool, cond, not, _&&_, _||_}
+use mathlib.Core.List.{List, [], _∷_, map}
+use Prim.Native.Nat.{ℕ, _+_}
+use lib.Dec.{eqb, ltb}
+use Rattle.leaves.specs.Formats.{isIndexed}
 use Rattle.leaves.specs.Texts.{bytesOf}
-use Rattle.arguments.specs.Words.{alike}
-use Rattle.command.specs.declared.files.FileRead.{FileRead}
-use Rattle.command.specs.declared.files.FileRead.the-variants.{Whole, TooLong, Failed}
+use Rattle.arguments.specs.Options.{numbered, first, isNone, isGiven, valueIn, valueOf, faultAt, firstFault, formatAsked}
+use Rattle.arguments.specs.Words.{upTo, itemAt}
+use Rattle.messages.specs.Messages.{filled}
 
--- no words, a first word that asks for help, or options that are all understood
-unfoldable pub isUnderstood : List (List ℕ) → Bool
-isUnderstood ws = isNone ws || alike (first ws) (bytesOf "--help") || isNone (firstFault ws)
+-- ---- what is wrong with an option: @ is its name, # its value
 
--- the bytes of a whole file stand within the buffer's
-abbrev pub Within : FileRead → ℕ → Type 0
-Within (Whole n) room = n ≤ room
-Within TooLong room = Unit {0}
-Within Failed room = Unit {0}
+unfoldable pub faultLines : List (List ℕ)
+faultLines =
+    map bytesOf
+    (""
+    ∷ "@ is no option (--help lists the options)\n"
+    ∷ "@ has no value (--help lists the options)\n"
+    ∷ "@: '#' is no number from 0 to 4294967295\n"
+    ∷ "@: '#' is none of Rgba, Rgb24, Bgra, Bgr24, Rgb555, Rgb565, Pal8, Indexed4, Indexed2, Indexed1\n"
+    ∷ "@: '#' is no list D,R,G,B,A of a depth from 0 to 65535 and four masks from 0 to 4294967295\n"
+    ∷ "@: '#' is no list of nine endpoints from -2147483648 to 2147483647 and three gammas from 0 to 4294967295\n"
+    ∷ "@: '#' is no number from 0 to 1152921504606846975\n"
+    ∷ "@ takes no value, and is given '#'\n"
+    ∷ "@ is followed by '#': the command takes options only\n"
+    ∷ [])
+
+-- the message of words that begin with an option that is not understood
+unfoldable pub faultTextAt : List (List ℕ) → List ℕ
+faultTextAt ws = filled (upTo 61 (first ws)) (valueIn ws) [] [] (itemAt faultLines (faultAt ws))
+
+-- ---- what is missing, or does not go together
+
+unfoldable pub firstFound : ℕ → Bool → ℕ → ℕ
+firstFound found test number = cond (eqb found 0) (cond test number 0) found
+
+-- the first that applies, by number; 0 where none does
+unfoldable pub jointFault : List (List ℕ) → ℕ
+jointFault ws =
+    let plane = isGiven (numbered "--plane") ws in
+    let csv = isGiven (numbered "--csv") ws in
+    let size = isGiven (numbered "--width") ws || (isGiven (numbered "--height") ws || isGiven (numbered "--stride") ws) in
+    let a = firstFound 0 (not (plane || csv)) 1 in
+    let b = firstFound a (plane && csv) 2 in
+    let c = firstFound b (plane && not (isGiven (numbered "--width") ws)) 3 in
+    let d = firstFound c (plane && not (isGiven (numbered "--height") ws)) 4 in
+    let e = firstFound d (csv && size) 5 in
+    let f = firstFound e (csv && not (isIndexed (formatAsked ws))) 6 in
+    let g = firstFound f (isGiven (numbered "--palette") ws && isGiven (numbered "--sample-palette") ws) 7 in
+    firstFound g (not (isGiven (numbered "--out") ws)) 8
+
+unfoldable pub jointLines : List (List ℕ)
+jointLines =
+    map bytesOf
+    (""
+    ∷ "--plane FILE or --csv FILE is missing (--help lists the options)\n"
+    ∷ "--plane and --csv are both given\n"
+    ∷ "--width N is missing\n"
+    ∷ "--height N is missing\n"
+    ∷ "--csv takes width, height and stride from the sheet\n"
+    ∷ "--csv is for Pal8, Indexed4, Indexed2 and Indexed1 alone\n"
+    ∷ "--palette and --sample-palette are both given\n"
+    ∷ "--out FILE is missing\n"
+    ∷ [])
+
+unfoldable pub jointText : ℕ → List ℕ
+jointText fault = filled [] [] [] [] (itemAt jointLines fault)
+
+-- ---- help, and the version
+
+unfoldable pub helpText : List ℕ
+helpText = filled [] [] [] [] (bytesOf "Usage: bmp_writer --plane FILE --width N --height N [OPTION ..] --out FILE\n       bmp_writer --csv FILE [OPTION ..] --out FILE\n\nEncodes a raw plane, or the indices of a sheet, as a BMP file, and prints its format, its bytes and the\nchecksum of `cksum`. The exit status is 0, or 1 where the picture is refused, or 2 where the command is not\nunderstood or a file cannot be read or written; FILE is then as it was.\n\n  --plane FILE            rows from the top; - is standard input\n  --width N, --height N   cells in a row, and rows\n  --stride N              bytes from one row of the plane to the next [a row's bytes]\n  --more-follows          the plane may be longer than stride times height\n  --csv FILE              in place of these: rows of indices, as a spreadsheet saves them\n  --format NAME           Rgba, Rgb24, Bgra, Bgr24, Rgb555, Rgb565, Pal8, Indexed4, Indexed2 or Indexed1 [Pal8]\n  --palette FILE          red, green, blue, alpha of each entry, a byte each\n  --sample-palette        256 entries from dark violet to yellow\n  --out FILE              the file to write; - is standard output\n  --top-down              rows from the top, and no RLE\n  --minimal-palette       a colour table as long as the palette\n  --no-rle                stored rows even where RLE is shorter\n  --bitfields D,R,G,B,A   cells of D bits (16 or 32) with these masks\n  --calibrated-rgb LIST   nine endpoints and three gammas, as the header has them\n  --icc FILE              a colour profile to embed\n  --linked-icc FILE       a linked profile's bytes, taken before an embedded one\n  --no-embed-icc          --icc is not written\n  --rendering-intent N    of a file with a profile [4]\n  --help, -h, --version\n\nA value is the next word, or follows a = as in --width=200; -- may end the options. Numbers are decimal, or\nhexadecimal after 0x; LIST has commas. Of an option given twice the last counts.\n")
+
+unfoldable pub versionText : List ℕ
+versionText = filled [] [] [] [] (bytesOf "bmp_writer 1.0.0\n")
+
+unfoldable pub asksHelp : List (List ℕ) → Bool
+asksHelp ws = isGiven (numbered "--help") ws || isGiven (numbered "-h") ws
+
+-- ---- the words as a whole: an option that is not understood comes first, then help, the version, and what is missing
+
+-- 0 done, 2 not understood, 3 the command is to be run
+unfoldable pub checkStatus : List (List ℕ) → ℕ
+checkStatus ws =
+    cond (isNone (firstFault ws)) (cond (asksHelp ws) 0 (cond (isGiven (numbered "--version") ws) 0 (cond (eqb (jointFault ws) 0) 3 2))) 2
+
+unfoldable pub checkText : List (List ℕ) → List ℕ
+checkText ws =
+    cond (isNone (firstFault ws))
+    (cond (asksHelp ws) helpText (cond (isGiven (numbered "--version") ws) versionText (cond (eqb (jointFault ws) 0) [] (jointText (jointFault ws)))))
+    (faultTextAt (firstFault ws))
+
+-- ---- the files: 0 the plane, 1 the sheet, 2 the palette, 3 the embedded and 4 the linked profile, 5 the file to write
+
+-- a profile that will not be written is not read
+unfoldable pub isSkipped : ℕ → List (List ℕ) → Bool
+isSkipped file ws = eqb file 3 && (isGiven (numbered "--no-embed-icc") ws || isGiven (numbered "--linked-icc") ws)
+
+unfoldable pub fileNamed : ℕ → List (List ℕ) → List ℕ
+fileNamed file ws = cond (ltb 5 file) [] (cond (isSkipped file ws) [] (valueOf (numbered "--plane" + file) ws))

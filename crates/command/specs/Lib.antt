@@ -1,2 +1,3 @@
-pub mod Checksum
+pub mod Sample
 pub mod Commands
+pub mod Runs

@@ -1,294 +1,420 @@
-// The command's run.
+// The command's run on files in memory.
 ghost use mathlib.Core.Path.{_≡_};
-ghost use Prim.Native.Nat.{_≤_};
-ghost use lib.ListN.{length};
-ghost use Rattle.arguments.specs.Words.{wordsOf};
-ghost use Rattle.command.specs.Checksum.{cksum};
-ghost use Rattle.command.specs.Commands.{isUnderstood};
-use crate::files::FileRead;
-use crate::files::checksum;
-use crate::files::read_file;
-use crate::files::save;
-use crate::names::decimal;
-use crate::names::print_cause;
-use crate::names::print_written;
-use crate::names::text;
-use crate::sample::mix;
-use crate::sample::paint;
+ghost use Prim.Native.Nat.{_*_, min};
+ghost use lib.Dec.{ltb};
+ghost use lib.ListN.{length, take};
+ghost use Rattle.arguments.specs.Options.{isGiven, numbered, optionsAsked};
+ghost use Rattle.arguments.specs.Words.{itemAt, wordsOf};
+ghost use mathlib.Core.List.{[]};
+ghost use Rattle.leaves.specs.Formats.{writtenName};
+ghost use Rattle.leaves.specs.Refusals.{numberOf};
+ghost use Rattle.messages.specs.Checksum.{cksum};
+ghost use Rattle.messages.specs.Messages.{decimal, filled, Says};
+ghost use Rattle.planner.specs.Answers.{boundBytes};
+ghost use Rattle.planner.specs.Calls.{called};
+ghost use Rattle.command.specs.Runs.{causes, tooLong, tooLongLine, writtenLine, refusedLine, writtenAnswer, writtenText, Encodes, mostIndex, sheetSource, paletteFor, SheetRun, Runs, Ran};
+use crate::CommandAnswer;
+use crate::check::check;
+use crate::check::told;
+use crate::sample::sample_palette;
+use arguments::formats::written_name;
+use arguments::options::CSV;
 use arguments::options::ICC;
 use arguments::options::LINKED_ICC;
+use arguments::options::MORE_FOLLOWS;
 use arguments::options::OUT;
-use arguments::options::PALETTE;
-use arguments::options::PLANE;
-use arguments::options::fault_at;
-use arguments::options::first_fault;
+use arguments::options::SAMPLE_PALETTE;
+use arguments::options::format_asked;
+use arguments::options::has_palette;
 use arguments::options::is_given;
 use arguments::options::options_asked;
 use arguments::options::source_asked;
 use arguments::options::value_of;
-use arguments::options::word;
+use arguments::words::both;
 use arguments::words::item;
 use arguments::words::part;
-use arguments::words::same;
+use leaves::encoder::EncodeSource;
 use leaves::encoder::EncodedBmpFormat;
+use leaves::encoder::written_names;
 use leaves::error::Refusal;
+use leaves::image::BmpPixelFormat;
+use messages::checksum::checksum;
+use messages::message::in_decimal;
+use messages::message::tell;
 use planner::encoder::Encoded;
 use planner::encoder::encode_into;
 use planner::plan::SizeBound;
 use planner::plan::encoded_size_bound;
+use sheets::Sheet;
+use sheets::cell_text;
+use sheets::read_sheet;
 
-// The bytes of the buffer that a file is encoded into.
-const ROOM: usize = 4194304;
+// ---- messages
 
-fn help() {
-    text(
-        b"Usage: bmp_writer                    paints a sample surface of 200 x 200 cells into grid.bmp
-       bmp_writer --plane FILE --width N --height N [OPTION ..] --out FILE
-       bmp_writer --help
-
-Encodes a raw plane as a BMP file, and prints its format, its bytes and the checksum of `cksum`, or
-'refused' with the cause; the file is then left alone. The exit status is always 0.
-
-  --plane FILE            rows from the top, at most 3145728 bytes
-  --format NAME           rgba, rgb24, bgra, bgr24, rgb555, rgb565, pal8, indexed4, indexed2 or indexed1 [pal8]
-  --width N, --height N   cells in a row, and rows
-  --stride N              bytes from one row of the plane to the next [a row's bytes]
-  --palette FILE          red, green, blue, alpha of each entry, at most 4096 bytes
-  --out FILE              the file to write, with FILE.part beside it until it is whole
-  --top-down              rows from the top, and no RLE
-  --minimal-palette       a colour table as long as the palette
-  --no-rle                stored rows even where RLE is shorter
-  --bitfields D,R,G,B,A   cells of D bits (16 or 32) with these masks
-  --calibrated-rgb LIST   nine endpoints and three gammas, as the header has them
-  --icc FILE              a colour profile to embed, at most 262144 bytes
-  --linked-icc FILE       a linked profile's bytes, taken before an embedded one, at most 4096
-  --no-embed-icc          --icc is not written
-  --rendering-intent N    of a file with a profile [4]
-
-Numbers are decimal, or hexadecimal after 0x; LIST has commas. Of an option given twice the last counts.
-A picture whose file may take more than 4194304 bytes is refused.
-",
-    );
-}
-
-// ---- what is printed
-
-// Prints how many bytes a file has, and its checksum, which is the answer.
-pub fn print_size(file: &[u8]) -> u32
-    ensures { λ r. ⌜ r ≡ cksum (now (file .entry)) ⌝ }
+// The largest index of an indexed layout.
+fn most_index(format: BmpPixelFormat) -> u8
+    ensures { λ r. ⌜ r ≡ mostIndex format ⌝ }
 {
-    let sum = checksum(file);
-    decimal(file.len() as u64);
-    text(b" bytes, cksum ");
-    decimal(sum as u64);
-    text(b"\n");
-    sum
-}
-
-fn print_file(name: &[u8], format: EncodedBmpFormat, file: &[u8]) {
-    text(name);
-    text(b": ");
-    print_written(format);
-    text(b", ");
-    print_size(file);
-}
-
-fn print_refusal(why: Refusal) {
-    text(b"refused, ");
-    decimal(why.number() as u64);
-    text(b": ");
-    print_cause(why);
-    text(b"\n");
-}
-
-fn print_too_large(bound: usize) {
-    text(b"refused, 15: the file may take ");
-    decimal(bound as u64);
-    text(b" bytes, and this program has room for 4194304\n");
-}
-
-// Says what is wrong with a word.
-fn print_trouble(word: &[u8], trouble: &[u8]) {
-    text(b"refused: ");
-    text(word);
-    text(trouble);
-}
-
-// Says what is wrong with the option at a place: the line of its fault's number.
-fn print_fault(words: &[u8], at: usize)
-    requires { ⌜ at ≤ length (now words) ⌝ }
-{
-    let faults = b" is understood
- is no option
- has no value, or is no option
- has no number in its range
- names no format
- has no depth and four masks
- has no nine endpoints and three gammas";
-    print_trouble(word(words, at), item(faults, fault_at(words, at), b'\n'));
-    text(b" (--help lists the options)\n");
-}
-
-fn print_too_long(name: &[u8], most: usize) {
-    print_trouble(name, b" is longer than ");
-    decimal(most as u64);
-    text(b" bytes, the most that this program takes\n");
-}
-
-// ---- encoding
-
-fn finish(name: &[u8], format: EncodedBmpFormat, file: &[u8]) {
-    if save(name, file) {
-        print_file(name, format, file);
-        return;
+    match format {
+        BmpPixelFormat::Pal8 => 255,
+        BmpPixelFormat::Indexed4 => 15,
+        BmpPixelFormat::Indexed2 => 3,
+        BmpPixelFormat::Indexed1 => 1,
+        BmpPixelFormat::Rgba => 0,
+        BmpPixelFormat::Rgb24 => 0,
+        BmpPixelFormat::Bgra => 0,
+        BmpPixelFormat::Bgr24 => 0,
+        BmpPixelFormat::Rgb555 => 0,
+        BmpPixelFormat::Rgb565 => 0,
     }
-    print_trouble(name, b" cannot be written\n");
 }
 
-// Encodes into out, and writes the file.
-fn encode_in<'a>(
+// The first n bytes, or all.
+fn head_of<'a>(bytes: &'a [u8], n: usize) -> &'a [u8]
+    ensures { λ r. ⌜ now r ≡ take n (now (bytes .entry)) ⌝ }
+{
+    if n < bytes.len() {
+        return part(bytes, 0, n);
+    }
+    bytes
+}
+
+fn tell_too_long(bytes: usize, stride: usize, height: u32, text: &mut [u8]) -> usize
+    ensures { λ r. ⌜ Says (now (text .entry)) 0 (filled (decimal bytes) (decimal stride) (decimal height) [] tooLongLine) (now (text .exit)) r ⌝ }
+{
+    let a = in_decimal(bytes as u64);
+    let b = in_decimal(stride as u64);
+    let c = in_decimal(height as u64);
+    let first = a.digits;
+    let second = b.digits;
+    let third = c.digits;
+    tell(
+        text,
+        b"the plane has @ bytes, more than stride # times height %: --more-follows allows more\n",
+        part(&first, a.from, 20),
+        part(&second, b.from, 20),
+        part(&third, c.from, 20),
+        b"",
+    )
+}
+
+fn tell_written(name: &[u8], format: EncodedBmpFormat, file: &[u8], text: &mut [u8]) -> usize
+    ensures { λ r. ⌜ Says (now (text .entry)) 0 (filled (now (name .entry)) (writtenName format) (decimal (length (now (file .entry)))) (decimal (cksum (now (file .entry)))) writtenLine) (now (text .exit)) r ⌝ }
+{
+    let names = written_names();
+    let a = in_decimal(file.len() as u64);
+    let b = in_decimal(checksum(file) as u64);
+    let first = a.digits;
+    let second = b.digits;
+    tell(
+        text,
+        b"@: #, % bytes, cksum &\n",
+        name,
+        written_name(&names, format),
+        part(&first, a.from, 20),
+        part(&second, b.from, 20),
+    )
+}
+
+fn tell_refusal(why: Refusal, text: &mut [u8]) -> usize
+    ensures { λ r. ⌜ Says (now (text .entry)) 0 (filled (decimal (numberOf why)) (itemAt causes (numberOf why)) [] [] refusedLine) (now (text .exit)) r ⌝ }
+{
+    let causes =
+        b"|width or height is 0|width or height is over 2147483647|an indexed format needs a palette|the palette's bytes are not a multiple of 4|more than one of masks, calibrated colour and a profile|the masks' depth is neither 16 nor 32|a mask has a bit above the depth|a mask's ones are not one run|a mask shares a bit with an earlier one|the masks of red, green and blue are all 0|masks are for Rgba, Rgb24, Bgra and Bgr24 alone|the plane is shorter than stride times height|the stride is below width times the bytes of a pixel|the file would be over 4294967295 bytes|the buffer is shorter than the file's bound|neither the stream nor the plain file fits in 4294967295 bytes";
+    let number = why.number();
+    let a = in_decimal(number as u64);
+    let digits = a.digits;
+    let cause = item(causes, number as usize, b'|');
+    tell(
+        text,
+        b"refused, @: #\n",
+        part(&digits, a.from, 20),
+        cause,
+        b"",
+        b"",
+    )
+}
+
+// A place, counted from 1.
+fn from_one(place: usize) -> u64 {
+    if place < 0xFFFF_FFFF_FFFF_FFFF {
+        place as u64 + 1
+    } else {
+        place as u64
+    }
+}
+
+// Says which cell of a sheet is no index.
+fn tell_cell(
+    name: &[u8],
+    row: usize,
+    column: usize,
+    cell: &[u8],
+    most: u8,
+    text: &mut [u8],
+) -> usize {
+    let lines =
+        b"@: row #, column %: '&' is no index from 0 to 255\n|@: row #, column %: '&' is no index from 0 to 15\n|@: row #, column %: '&' is no index from 0 to 3\n|@: row #, column %: '&' is no index from 0 to 1\n";
+    let which = match most {
+        255 => 0,
+        15 => 1,
+        3 => 2,
+        _ => 3,
+    };
+    let a = in_decimal(from_one(row));
+    let b = in_decimal(from_one(column));
+    let first = a.digits;
+    let second = b.digits;
+    tell(
+        text,
+        item(lines, which, b'|'),
+        name,
+        part(&first, a.from, 20),
+        part(&second, b.from, 20),
+        cell,
+    )
+}
+
+// Says which row of a sheet has another number of cells than the first.
+fn tell_ragged(name: &[u8], row: usize, count: usize, width: usize, text: &mut [u8]) -> usize {
+    let a = in_decimal(from_one(row));
+    let b = in_decimal(count as u64);
+    let c = in_decimal(width as u64);
+    let first = a.digits;
+    let second = b.digits;
+    let third = c.digits;
+    tell(
+        text,
+        b"@: row # has % cells, and row 1 has &\n",
+        name,
+        part(&first, a.from, 20),
+        part(&second, b.from, 20),
+        part(&third, c.from, 20),
+    )
+}
+
+// ---- a picture
+
+// Whether there are more bytes than the rows take, with no product that could wrap.
+fn is_longer(bytes: usize, stride: usize, height: u32) -> bool
+    ensures { λ r. ⌜ r ≡ ltb (stride * height) bytes ⌝ }
+{
+    if bytes == 0 {
+        return false;
+    }
+    if height == 0 {
+        return true;
+    }
+    stride <= (bytes - 1) / height as usize
+}
+
+// Where the size query passes, whether a plane is too long, unless more may follow.
+fn is_too_long(bound: SizeBound, source: EncodeSource, bytes: usize, more: bool) -> bool
+    ensures { λ r. ⌜ r ≡ tooLong bound source bytes more ⌝ }
+{
+    match bound {
+        SizeBound::Bytes(n) => both(is_longer(bytes, source.stride, source.height), !more),
+        SizeBound::Refused(why) => false,
+    }
+}
+
+fn bound_bytes(bound: SizeBound) -> usize
+    ensures { λ r. ⌜ r ≡ boundBytes bound ⌝ }
+{
+    match bound {
+        SizeBound::Bytes(n) => n,
+        SizeBound::Refused(why) => 0,
+    }
+}
+
+// The writer's answer as numbers and a message.
+fn answer(
+    words: &[u8],
+    bound: usize,
+    encoded: Encoded,
+    out: &[u8],
+    text: &mut [u8],
+) -> CommandAnswer
+    ensures { λ r. ⌜ (r ≡ writtenAnswer bound (r .text) encoded) × Says (now (text .entry)) 0 (writtenText (wordsOf (now (words .entry))) (now (out .entry)) encoded) (now (text .exit)) (r .text) ⌝ }
+{
+    match encoded {
+        Encoded::File(format, bytes) => {
+            let n = tell_written(value_of(words, OUT), format, head_of(out, bytes), text);
+            CommandAnswer {
+                bytes: bytes as u64,
+                bound: bound as u64,
+                text: n as u64,
+                status: 0,
+                refusal: 0,
+            }
+        }
+        Encoded::Refused(why) => {
+            let n = tell_refusal(why, text);
+            CommandAnswer {
+                bytes: 0,
+                bound: bound as u64,
+                text: n as u64,
+                status: 1,
+                refusal: why.number(),
+            }
+        }
+    }
+}
+
+fn encode<'a>(
+    words: &[u8],
+    source: EncodeSource,
+    plane: &[u8],
+    palette: &[u8],
+    icc: &'a [u8],
+    linked_icc: &'a [u8],
+    out: &mut [u8],
+    text: &mut [u8],
+) -> CommandAnswer
+    ensures { λ r. ⌜ Encodes (wordsOf (now (words .entry))) (called source (optionsAsked (wordsOf (now (words .entry)))) (now (plane .entry)) (now (palette .entry)) (now (icc .entry)) (now («linked_icc» .entry))) (now (out .entry)) (now (out .exit)) (now (text .entry)) (now (text .exit)) r ⌝ }
+{
+    let options = options_asked(words);
+    let bound = encoded_size_bound(source, options, plane, palette, icc, linked_icc);
+    if is_too_long(bound, source, plane.len(), is_given(words, MORE_FOLLOWS)) {
+        return told(
+            2,
+            tell_too_long(plane.len(), source.stride, source.height, text),
+        );
+    }
+    let encoded = encode_into(source, options, plane, palette, icc, linked_icc, out, 0);
+    answer(words, bound_bytes(bound), encoded, out, text)
+}
+
+// ---- a sheet
+
+fn at_most_32_bits(n: usize) -> u32
+    ensures { λ r. ⌜ r ≡ min n 0xFFFFFFFF ⌝ }
+{
+    if n < 0xFFFF_FFFF {
+        n as u32
+    } else {
+        0xFFFF_FFFF
+    }
+}
+
+fn sheet_source(words: &[u8], width: usize, height: usize) -> EncodeSource
+    ensures { λ r. ⌜ r ≡ sheetSource (wordsOf (now (words .entry))) width height ⌝ }
+{
+    let format = format_asked(words);
+    EncodeSource {
+        format,
+        width: at_most_32_bits(width),
+        height: at_most_32_bits(height),
+        stride: width,
+        has_palette: has_palette(words),
+        has_icc: is_given(words, ICC),
+        has_linked_icc: is_given(words, LINKED_ICC),
+    }
+}
+
+fn run_sheet<'a>(
+    words: &[u8],
+    sheet: &[u8],
+    palette: &[u8],
+    icc: &'a [u8],
+    linked_icc: &'a [u8],
+    cells: &mut [u8],
+    out: &mut [u8],
+    text: &mut [u8],
+) -> CommandAnswer
+    ensures { λ r. ⌜ SheetRun (wordsOf (now (words .entry))) (now (sheet .entry)) (now (palette .entry)) (now (icc .entry)) (now («linked_icc» .entry)) (now (cells .entry)) (now (out .entry)) (now (out .exit)) (now (text .entry)) (now (text .exit)) r ⌝ }
+{
+    let most = most_index(format_asked(words));
+    let read = read_sheet(sheet, most, cells);
+    match read {
+        Sheet::Rows(width, height, n) => {
+            let source = sheet_source(words, width, height);
+            encode(
+                words,
+                source,
+                head_of(cells, n),
+                palette,
+                icc,
+                linked_icc,
+                out,
+                text,
+            )
+        }
+        Sheet::NotAnIndex(row, column, from, to) => {
+            let cell = cell_text(sheet, from, to, column);
+            told(
+                2,
+                tell_cell(value_of(words, CSV), row, column, cell, most, text),
+            )
+        }
+        Sheet::Ragged(row, count, width) => {
+            told(
+                2,
+                tell_ragged(value_of(words, CSV), row, count, width, text),
+            )
+        }
+        Sheet::NoRoom => told(
+            2,
+            tell(
+                text,
+                b"not enough memory for the sheet's cells\n",
+                b"",
+                b"",
+                b"",
+                b"",
+            ),
+        ),
+    }
+}
+
+// ---- the run
+
+fn run_with<'a>(
     words: &[u8],
     plane: &[u8],
     palette: &[u8],
     icc: &'a [u8],
     linked_icc: &'a [u8],
-    out: &mut [u8; 4194304],
-) {
-    let source = source_asked(words);
-    let options = options_asked(words);
-    let encoded = encode_into(source, options, plane, palette, icc, linked_icc, out, 0);
-    match encoded {
-        Encoded::File(format, bytes) => {
-            finish(value_of(words, OUT), format, part(out, 0, bytes));
-        }
-        Encoded::Refused(why) => print_refusal(why),
+    cells: &mut [u8],
+    out: &mut [u8],
+    text: &mut [u8],
+) -> CommandAnswer
+    ensures { λ r. ⌜ Runs (isGiven (numbered "--csv") (wordsOf (now (words .entry)))) (wordsOf (now (words .entry))) (now (plane .entry)) (now (palette .entry)) (now (icc .entry)) (now («linked_icc» .entry)) (now (cells .entry)) (now (out .entry)) (now (out .exit)) (now (text .entry)) (now (text .exit)) r ⌝ }
+{
+    if is_given(words, CSV) {
+        return run_sheet(words, plane, palette, icc, linked_icc, cells, out, text);
     }
+    encode(
+        words,
+        source_asked(words),
+        plane,
+        palette,
+        icc,
+        linked_icc,
+        out,
+        text,
+    )
 }
 
-// Encodes where there is room for the file.
-fn encode<'a>(words: &[u8], plane: &[u8], palette: &[u8], icc: &'a [u8], linked_icc: &'a [u8]) {
-    let source = source_asked(words);
-    let options = options_asked(words);
-    let bound = encoded_size_bound(source, options, plane, palette, icc, linked_icc);
-    match bound {
-        SizeBound::Bytes(n) => {
-            if n > ROOM {
-                print_too_large(n);
-                return;
-            }
-            let mut out = [0u8; 4194304];
-            encode_in(words, plane, palette, icc, linked_icc, &mut out);
-        }
-        SizeBound::Refused(why) => print_refusal(why),
-    }
-}
-
-// ---- the sample
-
-// The sample is encoded as a command would ask for it.
-fn sample_in(plane: &mut [u8; 40000], palette: &mut [u8; 1024]) {
-    paint(plane);
-    mix(palette);
-    let words = b"--palette\0\0--width\0200\0--height\0200\0--out\0grid.bmp\0";
-    encode(words, plane, palette, b"", b"");
-}
-
-fn sample() {
-    let mut plane = [0u8; 40000];
-    let mut palette = [0u8; 1024];
-    sample_in(&mut plane, &mut palette);
-}
-
-// ---- files
-
-// Reads the file that an option names, and says why where it cannot; no bytes where none is named.
-fn read_asked(words: &[u8], option: usize, buf: &mut [u8]) -> FileRead {
-    if !is_given(words, option) {
-        return FileRead::Whole(0);
-    }
-    let name = value_of(words, option);
-    let read = read_file(name, buf);
-    match read {
-        FileRead::Whole(n) => {}
-        FileRead::TooLong => print_too_long(name, buf.len()),
-        FileRead::Failed => print_trouble(name, b" cannot be read\n"),
-    }
-    read
-}
-
-// Reads a linked profile, and encodes.
-fn with_linked_icc<'a>(
+pub fn run<'a>(
     words: &[u8],
     plane: &[u8],
     palette: &[u8],
     icc: &'a [u8],
-    linked_icc: &'a mut [u8],
-) {
-    let FileRead::Whole(n) = read_asked(words, LINKED_ICC, linked_icc) else {
-        return;
-    };
-    encode(words, plane, palette, icc, part(linked_icc, 0, n));
-}
-
-fn with_icc(words: &[u8], plane: &[u8], palette: &[u8], icc: &mut [u8; 262144]) {
-    let FileRead::Whole(n) = read_asked(words, ICC, icc) else {
-        return;
-    };
-    let mut linked_icc = io::buffer();
-    with_linked_icc(words, plane, palette, part(icc, 0, n), &mut linked_icc);
-}
-
-fn with_palette(words: &[u8], plane: &[u8], palette: &mut [u8; 4096]) {
-    let FileRead::Whole(n) = read_asked(words, PALETTE, palette) else {
-        return;
-    };
-    let mut icc = [0u8; 262144];
-    with_icc(words, plane, part(palette, 0, n), &mut icc);
-}
-
-fn with_plane(words: &[u8], plane: &mut [u8; 3145728]) {
-    let FileRead::Whole(n) = read_asked(words, PLANE, plane) else {
-        return;
-    };
-    let mut palette = [0u8; 4096];
-    with_palette(words, part(plane, 0, n), &mut palette);
-}
-
-// Whether an option that names a file is given with a name; says so where it is not.
-fn has_file(words: &[u8], option: usize, asked: &[u8]) -> bool {
-    let name = value_of(words, option);
-    if name.len() > 0 {
-        return true;
-    }
-    print_trouble(asked, b" is missing (--help lists the options)\n");
-    false
-}
-
-fn encode_files(words: &[u8]) {
-    if has_file(words, PLANE, b"--plane FILE") && has_file(words, OUT, b"--out FILE") {
-        let mut plane = [0u8; 3145728];
-        with_plane(words, &mut plane);
-    }
-}
-
-// Runs a command's words, each with a 0 after it; none of them paints the sample. The answer is whether they
-// are understood; what becomes of the files is printed, and free here.
-pub fn run(words: &[u8]) -> bool
-    ensures { λ r. ⌜ r ≡ isUnderstood (wordsOf (now (words .entry))) ⌝ }
+    linked_icc: &'a [u8],
+    cells: &mut [u8],
+    out: &mut [u8],
+    text: &mut [u8],
+) -> CommandAnswer
+    ensures { λ r. ⌜ Ran (wordsOf (now (words .entry))) (now (plane .entry)) (now (palette .entry)) (now (icc .entry)) (now («linked_icc» .entry)) (now (cells .entry)) (now (out .entry)) (now (out .exit)) (now (text .entry)) (now (text .exit)) r ⌝ }
 {
-    if words.len() == 0 {
-        sample();
-        return true;
+    let checked = check(words, text);
+    if checked.status != 3 {
+        return checked;
     }
-    if same(word(words, 0), b"--help") {
-        help();
-        return true;
+    if is_given(words, SAMPLE_PALETTE) {
+        let mixed = sample_palette();
+        return run_with(words, plane, &mixed, icc, linked_icc, cells, out, text);
     }
-    let at = first_fault(words);
-    if at < words.len() {
-        print_fault(words, at);
-        return false;
-    }
-    encode_files(words);
-    true
+    run_with(words, plane, palette, icc, linked_icc, cells, out, text)
 }

@@ -1,83 +1,115 @@
-// Runs the command lines that come on standard input, and prints after each what out.bmp then is. A line
-// 'zeros NAME N' is not a command: it makes a file of N zero bytes.
-use arguments::numbers::NOT_A_NUMBER;
-use arguments::numbers::number;
-use arguments::options::word;
+// Runs the command lines that come on standard input, with a 0 for each blank, on the files that they name, and prints
+// status, number and message of each.
 use arguments::words::end_of;
 use arguments::words::part;
-use arguments::words::same;
-use command::files::FileRead;
-use command::files::read_file;
-use command::run::print_size;
+use command::CommandAnswer;
+use command::check::check;
+use command::check::file_name;
 use command::run::run;
 use libc::STDIN_FILENO;
 use libc::STDOUT_FILENO;
 
-fn text(words: &[u8]) {
+fn print(words: &[u8]) {
     io::write_all(STDOUT_FILENO, words);
 }
 
-fn make_zeros(name: &[u8], n: u64) {
-    if n > 0xFFFF_FFFF {
-        return;
+fn show(answer: CommandAnswer, text: &[u8]) {
+    print(b"  ");
+    io::print_decimal(STDOUT_FILENO, answer.status as u64);
+    print(b" ");
+    io::print_decimal(STDOUT_FILENO, answer.refusal as u64);
+    print(b" ");
+    io::print_decimal(STDOUT_FILENO, answer.bytes);
+    print(b" ");
+    io::print_decimal(STDOUT_FILENO, answer.bound);
+    print(b"\n");
+    print(part(text, 0, answer.text as usize));
+}
+
+// Reads a file that a command names, and answers its bytes; 0 where it names none, or none that can be read.
+fn read(words: &[u8], file: u32, buf: &mut [u8]) -> usize {
+    let name = file_name(words, file);
+    if name.len() == 0 {
+        return 0;
     }
-    let fd = os::open_overwrite(name);
+    print(b"  reads ");
+    print(name);
+    print(b"\n");
+    let fd = os::open_read(name);
     if fd < 0 {
-        os::fail(name);
-        return;
+        print(b"  it cannot be read\n");
+        return 0;
     }
-    libc::ftruncate(fd, n as i64);
+    let n = io::read_full(fd, buf);
     libc::close(fd);
+    n
 }
 
-fn zeros(words: &[u8], name_at: usize) {
-    if name_at > words.len() {
-        return;
-    }
-    let name_end = end_of(words, name_at, 0);
-    if name_end >= words.len() {
-        return;
-    }
-    let n = number(word(words, name_end + 1));
-    if n == NOT_A_NUMBER {
-        text(b"no number\n");
-        return;
-    }
-    make_zeros(word(words, name_at), n);
+fn run_on<'a>(words: &[u8], plane: &[u8], palette: &[u8], icc: &'a [u8], linked_icc: &'a [u8]) {
+    let mut cells = io::large_buffer();
+    let mut out = io::large_buffer();
+    let mut space = io::buffer();
+    let text: &mut [u8] = &mut space;
+    let answer = run(
+        words,
+        plane,
+        palette,
+        icc,
+        linked_icc,
+        &mut cells,
+        &mut out,
+        text,
+    );
+    show(answer, text);
 }
 
-fn print_out(read: FileRead, file: &[u8]) {
-    match read {
-        FileRead::Whole(n) => {
-            text(b"  out.bmp has ");
-            print_size(part(file, 0, n));
-        }
-        FileRead::TooLong => text(b"  out.bmp is longer than 65536 bytes\n"),
-        FileRead::Failed => text(b"  there is no out.bmp\n"),
-    }
+fn run_profiles(words: &[u8], plane: &[u8], palette: &[u8]) {
+    let mut icc = io::buffer();
+    let mut linked_icc = io::buffer();
+    let n = read(words, 3, &mut icc);
+    let m = read(words, 4, &mut linked_icc);
+    run_on(
+        words,
+        plane,
+        palette,
+        part(&icc, 0, n),
+        part(&linked_icc, 0, m),
+    );
 }
 
-fn show_out() {
-    let mut space = io::large_buffer();
-    let file: &mut [u8] = &mut space;
-    let read = read_file(b"out.bmp", file);
-    print_out(read, file);
+// The plane, or the sheet.
+fn read_plane(words: &[u8], buf: &mut [u8]) -> usize {
+    let n = read(words, 0, buf);
+    if n > 0 {
+        return n;
+    }
+    read(words, 1, buf)
+}
+
+fn run_files(words: &[u8]) {
+    let mut plane = io::large_buffer();
+    let mut palette = io::buffer();
+    let n = read_plane(words, &mut plane);
+    let m = read(words, 2, &mut palette);
+    run_profiles(words, part(&plane, 0, n), part(&palette, 0, m));
 }
 
 fn run_words(words: &[u8]) {
-    if same(word(words, 0), b"zeros") {
-        zeros(words, end_of(words, 0, 0) + 1);
+    let mut space = io::buffer();
+    let text: &mut [u8] = &mut space;
+    let answer = check(words, text);
+    if answer.status != 3 {
+        show(answer, text);
         return;
     }
-    run(words);
-    show_out();
+    run_files(words);
 }
 
 // A line with a 0 for each blank and one at its end; an empty line has no words.
 fn run_line(line: &[u8]) {
-    text(b"$ ");
-    text(line);
-    text(b"\n");
+    print(b"$ ");
+    print(line);
+    print(b"\n");
     let mut space = io::buffer();
     let words: &mut [u8] = &mut space;
     let n = line.len();
@@ -91,7 +123,7 @@ fn run_line(line: &[u8]) {
     }
     words[n] = 0;
     if n == 0 {
-        run(part(words, 0, 0));
+        run_words(part(words, 0, 0));
         return;
     }
     run_words(part(words, 0, n + 1));

@@ -11,20 +11,20 @@ Inv-loop line words₀ n i₀ words i = (i ≤ n) × (length words ≡ 4096)
 abbrev μ-loop : tie.MeasureT-loop
 μ-loop line words₀ n i₀ words i = n - i
 
-slice-aggregate-text : tie.Need-slice-aggregate-text Inv-loop μ-loop
-slice-aggregate-text c = omega arith
+slice-aggregate-print : tie.Need-slice-aggregate-print Inv-loop μ-loop
+slice-aggregate-print c = omega arith
 
-text-requires : tie.Need-text-requires Inv-loop μ-loop
-text-requires c κs = omega arith
+print-requires : tie.Need-print-requires Inv-loop μ-loop
+print-requires c κs = omega arith
 
-text-requires-2 : tie.Need-text-requires-2 Inv-loop μ-loop
-text-requires-2 c κs = omega arith
+print-requires-2 : tie.Need-print-requires-2 Inv-loop μ-loop
+print-requires-2 c κs = omega arith
 
-slice-aggregate-text-2 : tie.Need-slice-aggregate-text-2 Inv-loop μ-loop
-slice-aggregate-text-2 c = omega arith
+slice-aggregate-print-2 : tie.Need-slice-aggregate-print-2 Inv-loop μ-loop
+slice-aggregate-print-2 c = omega arith
 
-text-requires-3 : tie.Need-text-requires-3 Inv-loop μ-loop
-text-requires-3 c κs = omega arith
+print-requires-3 : tie.Need-print-requires-3 Inv-loop μ-loop
+print-requires-3 c κs = omega arith
 
 buffer-requires : tie.Need-buffer-requires Inv-loop μ-loop
 buffer-requires c κs = omega arith
@@ -62,8 +62,8 @@ slice-write-words-2 c = omega arith
 part-requires : tie.Need-part-requires Inv-loop μ-loop
 part-requires c κs = omega arith
 
-run-requires : tie.Need-run-requires Inv-loop μ-loop
-run-requires c κs = omega arith
+run-words-requires : tie.Need-run-words-requires Inv-loop μ-loop
+run-words-requires c κs = omega arith
 
 returns-2 : tie.Need-returns-2 Inv-loop μ-loop
 returns-2 c = omega arith
@@ -74,8 +74,8 @@ add-part c = omega arith
 part-requires-2 : tie.Need-part-requires-2 Inv-loop μ-loop
 part-requires-2 c κs = omega arith
 
-run-words-requires : tie.Need-run-words-requires Inv-loop μ-loop
-run-words-requires c κs = omega arith
+run-words-requires-2 : tie.Need-run-words-requires-2 Inv-loop μ-loop
+run-words-requires-2 c κs = omega arith
 
 returns-3 : tie.Need-returns-3 Inv-loop μ-loop
 returns-3 c = omega arith
@@ -86,11 +86,11 @@ run-line-spec =
     (tie.spec
     Inv-loop
     μ-loop
-    slice-aggregate-text
-    text-requires
-    text-requires-2
-    slice-aggregate-text-2
-    text-requires-3
+    slice-aggregate-print
+    print-requires
+    print-requires-2
+    slice-aggregate-print-2
+    print-requires-3
     buffer-requires
     slice-aggregate-words
     returns
@@ -103,9 +103,9 @@ run-line-spec =
     loop-again
     slice-write-words-2
     part-requires
-    run-requires
+    run-words-requires
     returns-2
     add-part
     part-requires-2
-    run-words-requires
+    run-words-requires-2
     returns-3)

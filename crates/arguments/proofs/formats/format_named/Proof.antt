@@ -5,8 +5,7 @@ use native.Mathlib.Omega.{arith}
 use lib.ListN.{List·getD-eq-default, getD}
 use Rattle.leaves.specs.declared.image.BmpPixelFormat.the-variants.{Rgba, Rgb24, Bgra, Bgr24, Rgb555, Rgb565, Pal8, Indexed4, Indexed2, Indexed1}
 use Rattle.leaves.specs.declared.image.BmpPixelFormat.{BmpPixelFormat}
-use Rattle.arguments.specs.Options.{formatNames, formatNamed}
-use Rattle.arguments.specs.Words.{placeAmong}
+use Rattle.arguments.specs.Options.{formatNumbered, formatNamed}
 use Rattle.arguments.proofs.Pieces.{above}
 use Rattle.arguments.proofs.formats.format_named.Statement.{statement}
 use Rattle.arguments.proofs.formats.format_named.Tie as tie
@@ -15,11 +14,11 @@ layouts : List BmpPixelFormat
 layouts = Rgba ∷ Rgb24 ∷ Bgra ∷ Bgr24 ∷ Rgb555 ∷ Rgb565 ∷ Indexed4 ∷ Indexed2 ∷ Indexed1 ∷ []
 
 -- the layout of a name's number
-numbered : (name : List ℕ) (n k : ℕ) → n ≡ placeAmong formatNames name → n ≡ k → getD layouts k Pal8 ≡ formatNamed name
+numbered : (name : List ℕ) (n k : ℕ) → n ≡ formatNumbered name → n ≡ k → getD layouts k Pal8 ≡ formatNamed name
 unfolding formatNamed layouts
 numbered name n k e f = ap (λ (m : ℕ). getD layouts m Pal8) (sym f ∙ e)
 
-past : (name : List ℕ) (n : ℕ) → n ≡ placeAmong formatNames name → 9 ≤ n → Pal8 ≡ formatNamed name
+past : (name : List ℕ) (n : ℕ) → n ≡ formatNumbered name → 9 ≤ n → Pal8 ≡ formatNamed name
 unfolding layouts
 past name n e h = sym (List·getD-eq-default layouts Pal8 h) ∙ numbered name n n e refl
 

@@ -1,9 +1,10 @@
+use mathlib.Core.Bool.{true}
 use mathlib.Core.List.{List}
 use mathlib.Core.Path.{refl, ap, _∙_, _≡_}
 use Prim.Native.Nat.{ℕ}
 use native.Mathlib.Omega.{arith}
-use Rattle.arguments.specs.Options.{formatNames}
-use Rattle.arguments.specs.Words.{onto, pieces, itemsOf, placeAmong}
+use Rattle.arguments.specs.Options.{formatNames, formatNumbered}
+use Rattle.arguments.specs.Words.{onto, pieces, itemsOf, inCase, placeAmong}
 use Rattle.leaves.specs.Texts.{bytesOf}
 use Rattle.arguments.proofs.formats.format_number.Statement.{statement}
 use Rattle.arguments.proofs.formats.format_number.Tie as tie
@@ -19,8 +20,8 @@ place-in-requires : tie.Need-place-in-requires
 place-in-requires c κs = omega arith
 
 returns : tie.Need-returns
-unfolding bytesOf
-returns c = c .place-in .ensures ∙ ap (λ (ps : List (List ℕ)). placeAmong ps (c .before .before .before .args .name .now)) names
+unfolding bytesOf formatNumbered
+returns c = c .place-in .ensures ∙ ap (λ (ps : List (List ℕ)). placeAmong ps (inCase true (c .before .before .before .args .name .now))) names
 
 pub format-number-spec : {M : Type 1} → statement M
 format-number-spec = tie.close (tie.spec slice-aggregate-place-in place-in-requires returns)

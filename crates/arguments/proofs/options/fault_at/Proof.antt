@@ -1,85 +1,142 @@
-use mathlib.Core.List.{List, [], _∷_}
+use mathlib.Core.List.{List}
 use mathlib.Core.Bool.{Bool, true, false}
-use mathlib.Core.Path.{refl, sym, ap, _∙_, _≡_}
+use mathlib.Core.Path.{sym, ap, _∙_, _≡_}
 use Prim.Native.Nat.{ℕ, _+_, _≤_, _<_}
 use native.Mathlib.Omega.{arith}
-use borrow.Author.Tests.{ltb-true, ltb-false}
-use lib.ListN.{drop, length}
 use lib.Dec.{ltb}
-use Rattle.arguments.specs.Options.{optionNames, optionNamed, standsAlone, faultOf, faultAt}
-use Rattle.arguments.specs.Words.{placeAmong, alike, upTo, itemAt, wordsOf}
-use Rattle.leaves.specs.Texts.{bytesOf}
-use Rattle.arguments.proofs.OptionLaws.{words-next}
-use Rattle.arguments.proofs.Pieces.{first-word, words-end, words-at}
+use lib.ListN.{drop, length}
+use Rattle.arguments.specs.Options.{optionNamed, standsAlone, carriesValue, carried, first, second, isNone, faultOf, faultAlone, faultLast, faultAt}
+use Rattle.arguments.specs.Words.{upTo, wordsOf}
+use Rattle.arguments.proofs.OptionLaws.{second-word, followed, none-behind, some-behind}
+use Rattle.arguments.proofs.Pieces.{first-word}
 use Rattle.arguments.proofs.options.fault_at.Statement.{statement}
 use Rattle.arguments.proofs.options.fault_at.Tie as tie
 
-alone : (ws : List (List ℕ)) → standsAlone (optionNamed (itemAt ws 0)) ≡ true → 0 ≡ faultAt ws
-unfolding faultAt itemAt standsAlone bytesOf optionNames optionNamed placeAmong alike
-alone [] e = let z : false ≡ true = e in cc
-alone (w ∷ []) e = rw e
-alone (w ∷ v ∷ ws) e = rw e
+-- the same of equal options, words and values
+same-alone : {n m : ℕ} {b d : Bool} → n ≡ m → b ≡ d → (more : Bool) → faultAlone n b more ≡ faultAlone m d more
+same-alone e f more = rw (e, f)
 
-module _ (text : List ℕ) (at next : ℕ) (after : next ≡ at + length (upTo 0 (drop at text)) + 1) (valued : standsAlone (optionNamed (upTo 0 (drop at text))) ≡ false) where
-  no-value : length text ≤ next → 2 ≡ faultAt (wordsOf (drop at text))
-  unfolding faultAt
-  no-value h = go (ltb at (length text)) refl
-    where
-      go : (b : Bool) → ltb at (length text) ≡ b → 2 ≡ faultAt (wordsOf (drop at text))
-      go true q = rw (words-next text at next after (ltb-true at (length text) q), words-end text next h, valued)
-      go false q = rw (words-end text at (ltb-false at (length text) q))
+same-value : {n m : ℕ} {v w : List ℕ} → n ≡ m → v ≡ w → faultOf n v ≡ faultOf m w
+same-value e f = rw (e, f)
 
-  with-value : next < length text → faultOf (optionNamed (upTo 0 (drop at text))) (upTo 0 (drop next text)) ≡ faultAt (wordsOf (drop at text))
-  unfolding faultAt
-  with-value h =
-      let inside : at < length text = omega arith in
-      rw (words-next text at next after inside, words-at text next h, valued)
+module _ (text : List ℕ) (at next : ℕ) (after : next ≡ at + length (upTo 0 (drop at text)) + 1) where
+  abbrev given : List ℕ
+  given = upTo 0 (drop at text)
 
-option-at-requires : tie.Need-option-at-requires
-option-at-requires c κs = omega arith
+  alone : standsAlone (optionNamed given) ≡ true → faultAlone (optionNamed given) (carriesValue given) (ltb next (length text)) ≡ faultAt (wordsOf (drop at text))
+  unfolding faultAt first
+  alone e = rw (first-word (drop at text), e, followed text at next after)
 
-stands-alone-requires : tie.Need-stands-alone-requires
-stands-alone-requires c κs = omega arith
+  module _ (n1 : standsAlone (optionNamed given) ≡ false) where
+    inside : carriesValue given ≡ true → faultOf (optionNamed given) (carried given) ≡ faultAt (wordsOf (drop at text))
+    unfolding faultAt first
+    inside e = rw (first-word (drop at text), n1, e)
 
-returns : tie.Need-returns
-returns c =
-    let a = c .before .before .before .before .args in
-    let xs = drop (a .at) (a .words .now) in
-    let is = c .before .stands-alone .ensures ∙ ap standsAlone (c .before .before .option-at .ensures) in
-    alone (wordsOf xs) (ap (λ (w : List ℕ). standsAlone (optionNamed w)) (first-word xs) ∙ sym is ∙ c .if1 .taken)
+    module _ (n2 : carriesValue given ≡ false) where
+      no-word : length text ≤ next → faultLast (optionNamed given) ≡ faultAt (wordsOf (drop at text))
+      unfolding faultAt first
+      no-word h = rw (first-word (drop at text), n1, n2, none-behind text at next after h)
 
-after-word-requires : tie.Need-after-word-requires
-after-word-requires c κs = omega arith
-
-returns-2 : tie.Need-returns-2
-returns-2 c =
-    let a = c .before .before .before .before .before .before .args in
-    let is = c .before .before .before .stands-alone .ensures ∙ ap standsAlone (c .before .before .before .before .option-at .ensures) in
-    no-value (a .words .now) (a .at) (c .before .after-word .result) (c .before .after-word .ensures) (sym is ∙ c .before .before .if1 .left) (c .if2 .taken)
+      with-word : next < length text → faultOf (optionNamed given) (upTo 0 (drop next text)) ≡ faultAt (wordsOf (drop at text))
+      unfolding faultAt first
+      with-word h = rw (first-word (drop at text), n1, n2, some-behind text at next after h, second-word text at next after)
 
 word-requires : tie.Need-word-requires
 word-requires c κs = omega arith
 
+option-named-requires : tie.Need-option-named-requires
+option-named-requires c κs = omega arith
+
+after-word-requires : tie.Need-after-word-requires
+after-word-requires c κs = omega arith
+
+stands-alone-requires : tie.Need-stands-alone-requires
+stands-alone-requires c κs = omega arith
+
+carries-value-requires : tie.Need-carries-value-requires
+carries-value-requires c κs = omega arith
+
+fault-alone-requires : tie.Need-fault-alone-requires
+fault-alone-requires c κs = omega arith
+
+returns : tie.Need-returns
+returns c =
+    let a = c .before .before .before .before .before .before .before .before .args in
+    let next = c .before .before .before .before .after-word in
+    let word = c .before .before .before .before .before .before .word .ensures in
+    let option = c .before .before .before .before .before .option-named .ensures ∙ ap optionNamed word in
+    let is = c .before .before .before .stands-alone .ensures ∙ ap standsAlone option in
+    c .fault-alone .ensures ∙ same-alone option (c .before .carries-value .ensures ∙ ap carriesValue word) (ltb (next .result) (length (a .words .now)))
+    ∙ alone (a .words .now) (a .at) (next .result) (next .ensures) (sym is ∙ c .before .before .if1 .taken)
+
+carries-value-requires-2 : tie.Need-carries-value-requires-2
+carries-value-requires-2 c κs = omega arith
+
+carried-requires : tie.Need-carried-requires
+carried-requires c κs = omega arith
+
 fault-of-requires : tie.Need-fault-of-requires
 fault-of-requires c κs = omega arith
 
+returns-2 : tie.Need-returns-2
+returns-2 c =
+    let a = c .before .before .before .before .before .before .before .before .before .before .args in
+    let next = c .before .before .before .before .before .before .after-word in
+    let word = c .before .before .before .before .before .before .before .before .word .ensures in
+    let option = c .before .before .before .before .before .before .before .option-named .ensures ∙ ap optionNamed word in
+    let is = c .before .before .before .before .before .stands-alone .ensures ∙ ap standsAlone option in
+    let carries = c .before .before .before .carries-value2 .ensures ∙ ap carriesValue word in
+    c .fault-of .ensures ∙ same-value option (c .before .carried .ensures ∙ ap carried word)
+    ∙ inside (a .words .now) (a .at) (next .result) (next .ensures) (sym is ∙ c .before .before .before .before .if1 .left) (sym carries ∙ c .before .before .if2 .taken)
+
+fault-last-requires : tie.Need-fault-last-requires
+fault-last-requires c κs = omega arith
+
 returns-3 : tie.Need-returns-3
 returns-3 c =
-    let a = c .before .before .before .before .before .before .before .before .args in
-    let is = c .before .before .before .before .before .stands-alone .ensures ∙ ap standsAlone (c .before .before .before .before .before .before .option-at .ensures) in
-    let next = c .before .before .before .after-word in
-    c .fault-of .ensures ∙ ap (λ (o : ℕ). faultOf o (c .before .word .result .now)) (c .before .before .before .before .before .before .option-at .ensures) ∙ ap (faultOf (optionNamed (upTo 0 (drop (a .at) (a .words .now))))) (c .before .word .ensures)
-    ∙ with-value (a .words .now) (a .at) (next .result) (next .ensures) (sym is ∙ c .before .before .before .before .if1 .left) (c .before .before .if2 .left)
+    let a = c .before .before .before .before .before .before .before .before .before .before .args in
+    let next = c .before .before .before .before .before .before .after-word in
+    let word = c .before .before .before .before .before .before .before .before .word .ensures in
+    let option = c .before .before .before .before .before .before .before .option-named .ensures ∙ ap optionNamed word in
+    let is = c .before .before .before .before .before .stands-alone .ensures ∙ ap standsAlone option in
+    let carries = c .before .before .before .carries-value2 .ensures ∙ ap carriesValue word in
+    c .fault-last .ensures ∙ ap faultLast option
+    ∙ no-word (a .words .now) (a .at) (next .result) (next .ensures) (sym is ∙ c .before .before .before .before .if1 .left) (sym carries ∙ c .before .before .if2 .left) (c .before .if3 .taken)
+
+word-requires-2 : tie.Need-word-requires-2
+word-requires-2 c κs = omega arith
+
+fault-of-requires-2 : tie.Need-fault-of-requires-2
+fault-of-requires-2 c κs = omega arith
+
+returns-4 : tie.Need-returns-4
+returns-4 c =
+    let a = c .before .before .before .before .before .before .before .before .before .before .before .args in
+    let next = c .before .before .before .before .before .before .before .after-word in
+    let word = c .before .before .before .before .before .before .before .before .before .word .ensures in
+    let option = c .before .before .before .before .before .before .before .before .option-named .ensures ∙ ap optionNamed word in
+    let is = c .before .before .before .before .before .before .stands-alone .ensures ∙ ap standsAlone option in
+    let carries = c .before .before .before .before .carries-value2 .ensures ∙ ap carriesValue word in
+    c .fault-of2 .ensures ∙ same-value option (c .before .word2 .ensures)
+    ∙ with-word (a .words .now) (a .at) (next .result) (next .ensures) (sym is ∙ c .before .before .before .before .before .if1 .left) (sym carries ∙ c .before .before .before .if2 .left) (c .before .before .if3 .left)
 
 pub fault-at-spec : {M : Type 1} → statement M
 fault-at-spec =
     tie.close
     (tie.spec
-    option-at-requires
-    stands-alone-requires
-    returns
-    after-word-requires
-    returns-2
     word-requires
+    option-named-requires
+    after-word-requires
+    stands-alone-requires
+    carries-value-requires
+    fault-alone-requires
+    returns
+    carries-value-requires-2
+    carried-requires
     fault-of-requires
-    returns-3)
+    returns-2
+    fault-last-requires
+    returns-3
+    word-requires-2
+    fault-of-requires-2
+    returns-4)

@@ -4,18 +4,18 @@ use mathlib.Core.Path.{sym, ap, _∙_, _≡_}
 use Prim.Native.Nat.{ℕ}
 use native.Mathlib.Omega.{arith}
 use Rattle.arguments.specs.Options.{optionNames, optionNamed, isGiven, valueOf, intentAsked}
-use Rattle.arguments.specs.Words.{placeAmong, alike, wordsOf}
+use Rattle.arguments.specs.Words.{upTo, placeAmong, alike, wordsOf}
 use Rattle.leaves.specs.Texts.{bytesOf}
 use Rattle.arguments.specs.Numbers.{number32}
 use Rattle.arguments.proofs.options.intent.Statement.{statement}
 use Rattle.arguments.proofs.options.intent.Tie as tie
 
-asked : (ws : List (List ℕ)) → isGiven 8 ws ≡ true → number32 (valueOf 8 ws) ≡ intentAsked ws
-unfolding intentAsked bytesOf optionNames optionNamed placeAmong alike
+asked : (ws : List (List ℕ)) → isGiven 14 ws ≡ true → number32 (valueOf 14 ws) ≡ intentAsked ws
+unfolding intentAsked bytesOf optionNames optionNamed placeAmong alike upTo
 asked ws e = rw e
 
-usual : (ws : List (List ℕ)) → isGiven 8 ws ≡ false → 4 ≡ intentAsked ws
-unfolding intentAsked bytesOf optionNames optionNamed placeAmong alike
+usual : (ws : List (List ℕ)) → isGiven 14 ws ≡ false → 4 ≡ intentAsked ws
+unfolding intentAsked bytesOf optionNames optionNamed placeAmong alike upTo
 usual ws e = rw e
 
 is-given-requires : tie.Need-is-given-requires

@@ -5,7 +5,7 @@ use Prim.Native.Nat.{ℕ, _-_, _≤_}
 use native.Mathlib.Omega.{arith}
 use lib.ListN.{length, drop}
 use Rattle.arguments.specs.Words.{wordsOf}
-use Rattle.arguments.specs.Options.{lastGiven}
+use Rattle.arguments.specs.Options.{optionNamed, lastGiven}
 use Rattle.arguments.proofs.OptionLaws.{orElse, last-start, last-end, last-here, last-other}
 use Rattle.arguments.proofs.options.last_given.Statement.{statement}
 use Rattle.arguments.proofs.options.last_given.Tie as tie
@@ -23,8 +23,11 @@ abbrev μ-loop : tie.MeasureT-loop
 loop-holds : tie.Need-loop-holds Inv-loop μ-loop
 loop-holds c = (omega arith, last-start (c .before .args .option) (c .before .args .words .now))
 
-option-at-requires : tie.Need-option-at-requires Inv-loop μ-loop
-option-at-requires c κs = omega arith
+word-requires : tie.Need-word-requires Inv-loop μ-loop
+word-requires c κs = omega arith
+
+option-named-requires : tie.Need-option-named-requires Inv-loop μ-loop
+option-named-requires c κs = omega arith
 
 after-option-requires : tie.Need-after-option-requires Inv-loop μ-loop
 after-option-requires c κs = omega arith
@@ -34,12 +37,12 @@ loop-less c = omega arith
 
 loop-again : tie.Need-loop-again Inv-loop μ-loop
 loop-again c =
-    let a = c .before .before .before .before .before .before .args in
+    let a = c .before .before .before .before .before .before .before .args in
     let text = a .words .now in
-    let l = c .before .before .before .before .loop in
+    let l = c .before .before .before .before .before .loop in
     let next = c .after-option in
-    let option = c .before .before .option-at .ensures in
-    let inside = c .before .before .before .loop-test .taken in (
+    let option = c .before .before .option-named .ensures ∙ ap optionNamed (c .before .before .before .word .ensures) in
+    let inside = c .before .before .before .before .loop-test .taken in (
       ⊎-elim (λ w. omega arith) (λ w. omega arith) (c .before .if1 .came),
       l .inv .1
           ∙ ⊎-elim
@@ -61,7 +64,8 @@ last-given-spec =
     Inv-loop
     μ-loop
     loop-holds
-    option-at-requires
+    word-requires
+    option-named-requires
     after-option-requires
     loop-less
     loop-again

@@ -7,18 +7,18 @@ use Rattle.leaves.specs.declared.options.EncodeOptions.{EncodeOptions}
 use Rattle.leaves.specs.declared.options.CalibratedRgb.{CalibratedRgb}
 use Rattle.leaves.specs.declared.bitfields.BmpBitfields.{BmpBitfields}
 use Rattle.arguments.specs.Options.{optionNames, optionNamed, isGiven, valueOf, masksAsked, calibratedAsked, intentAsked, optionsAsked}
-use Rattle.arguments.specs.Words.{placeAmong, alike, wordsOf}
+use Rattle.arguments.specs.Words.{upTo, placeAmong, alike, wordsOf}
 use Rattle.leaves.specs.Texts.{bytesOf}
 use Rattle.arguments.proofs.options.options_asked.Statement.{statement}
 use Rattle.arguments.proofs.options.options_asked.Tie as tie
 
 made : (ws : List (List ℕ)) (t m n b e c : Bool) (masks : BmpBitfields) (intent : ℕ) (calibrated : CalibratedRgb)
-    → t ≡ isGiven 0 ws → m ≡ isGiven 1 ws → n ≡ isGiven 2 ws → b ≡ isGiven 9 ws → e ≡ isGiven 3 ws → c ≡ isGiven 10 ws
-    → masks ≡ masksAsked (valueOf 9 ws) → intent ≡ intentAsked ws → calibrated ≡ calibratedAsked (valueOf 10 ws)
+    → t ≡ isGiven 0 ws → m ≡ isGiven 1 ws → n ≡ isGiven 2 ws → b ≡ isGiven 15 ws → e ≡ isGiven 3 ws → c ≡ isGiven 16 ws
+    → masks ≡ masksAsked (valueOf 15 ws) → intent ≡ intentAsked ws → calibrated ≡ calibratedAsked (valueOf 16 ws)
     → _≡_ {A = EncodeOptions}
     (record { «top_down» = t; «minimal_palette» = m; rle = not n; «has_bitfields» = b; bitfields = masks; «embed_icc» = not e; «rendering_intent» = intent; «has_calibrated_rgb» = c; «calibrated_rgb» = calibrated })
     (optionsAsked ws)
-unfolding optionsAsked bytesOf optionNames optionNamed placeAmong alike
+unfolding optionsAsked bytesOf optionNames optionNamed placeAmong alike upTo
 made ws t m n b e c masks intent calibrated et em en eb ee ec emasks eintent ecalibrated = rw (et, em, en, eb, ee, ec, emasks, eintent, ecalibrated)
 
 value-of-requires : tie.Need-value-of-requires

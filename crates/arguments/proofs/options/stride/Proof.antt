@@ -6,19 +6,19 @@ use native.Mathlib.Omega.{arith}
 use Rattle.leaves.specs.Formats.{bytesPerPixel}
 use Rattle.leaves.specs.declared.image.BmpPixelFormat.{BmpPixelFormat}
 use Rattle.arguments.specs.Options.{optionNames, optionNamed, isGiven, valueOf, strideAsked}
-use Rattle.arguments.specs.Words.{placeAmong, alike, wordsOf}
+use Rattle.arguments.specs.Words.{upTo, placeAmong, alike, wordsOf}
 use Rattle.leaves.specs.Texts.{bytesOf}
 use Rattle.arguments.specs.Numbers.{numberOf}
 use Rattle.arguments.proofs.options.stride.Statement.{statement}
 use Rattle.arguments.proofs.options.stride.Tie as tie
 
 module _ (ws : List (List ℕ)) (width : ℕ) (format : BmpPixelFormat) where
-  asked : isGiven 7 ws ≡ true → numberOf (valueOf 7 ws) ≡ strideAsked ws width format
-  unfolding strideAsked bytesOf optionNames optionNamed placeAmong alike
+  asked : isGiven 13 ws ≡ true → numberOf (valueOf 13 ws) ≡ strideAsked ws width format
+  unfolding strideAsked bytesOf optionNames optionNamed placeAmong alike upTo
   asked e = rw e
 
-  close : isGiven 7 ws ≡ false → bytesPerPixel format * width ≡ strideAsked ws width format
-  unfolding strideAsked bytesOf optionNames optionNamed placeAmong alike
+  close : isGiven 13 ws ≡ false → bytesPerPixel format * width ≡ strideAsked ws width format
+  unfolding strideAsked bytesOf optionNames optionNamed placeAmong alike upTo
   close e = rw e
 
 is-given-requires : tie.Need-is-given-requires

@@ -1,76 +1,91 @@
-use mathlib.Core.Path.{_≡_, sym, ap, _∙_}
-use native.Mathlib.Nat.{pos-of-ne-zero}
+use mathlib.Core.Path.{sym, _∙_}
 use native.Mathlib.Omega.{arith}
-use Rattle.leaves.specs.Texts.{bytesOf}
-use Rattle.arguments.specs.Words.{alike}
-use Rattle.command.proofs.CommandLaws.{none-understood, help-understood, all-understood, not-understood}
 use borrow.Author.Needs.{needs}
+use Rattle.leaves.specs.Texts.{bytesOf}
+use Rattle.arguments.specs.Options.{optionNames, optionNamed}
+use Rattle.arguments.specs.Words.{upTo, placeAmong, alike, wordsOf}
+use Rattle.command.proofs.RunLaws.{not-run, has-run, sample-chosen, lent-chosen}
 use Rattle.command.proofs.run.run.Statement.{statement}
 use Rattle.command.proofs.run.run.Tie as tie
-use Rattle.command.proofs.run.run.Reads as reads
-use Rattle.command.proofs.run.run.Lts as lts
-use Rattle.arguments.proofs.options.first_fault.Reads as first-fault-reads
-use Rattle.arguments.proofs.options.word.Reads as word-reads
-use Rattle.arguments.proofs.words.same.Reads as same-reads
-use Rattle.command.proofs.run.encode_files.Reads as encode-files-reads
-use Rattle.command.proofs.run.help.Reads as help-reads
-use Rattle.command.proofs.run.print_fault.Reads as print-fault-reads
-use Rattle.command.proofs.run.sample.Reads as sample-reads
 
-sample-requires : tie.Need-sample-requires
-sample-requires c κs = search needs
+check-requires : tie.Need-check-requires
+check-requires c κs = omega arith
+
+same-length : tie.Need-same-length
+same-length c = search needs
 
 returns : tie.Need-returns
-returns c = sym (none-understood (c .before .before .before .args .words .now) (omega (arith, c .before .if1 .taken)))
+returns c =
+    let a = c .before .before .before .before .before .before .before .before .before .before .before .before .before .before .args in
+    not-run (c .before .before .before .before .check .ensures) (a .plane .now) (a .palette .now) (a .icc .now) (a .linked-icc .now) (a .cells .now) (a .out .now) (c .if1 .taken)
 
-word-requires : tie.Need-word-requires
-word-requires c κs = search needs
+is-given-requires : tie.Need-is-given-requires
+is-given-requires c κs = omega arith
 
-slice-aggregate-same : tie.Need-slice-aggregate-same
-slice-aggregate-same c = search needs
+sample-palette-requires : tie.Need-sample-palette-requires
+sample-palette-requires c κs = omega arith
 
-same-requires : tie.Need-same-requires
-same-requires c κs = search needs
+slice-aggregate-run-with : tie.Need-slice-aggregate-run-with
+slice-aggregate-run-with c = search needs
 
-help-requires : tie.Need-help-requires
-help-requires c κs = search needs
+run-with-requires : tie.Need-run-with-requires
+run-with-requires c κs = omega arith
+
+same-length-2 : tie.Need-same-length-2
+same-length-2 c = search needs
+
+same-length-3 : tie.Need-same-length-3
+same-length-3 c = search needs
+
+same-length-4 : tie.Need-same-length-4
+same-length-4 c = search needs
 
 returns-2 : tie.Need-returns-2
-unfolding bytesOf
-returns-2 c = sym (help-understood (c .before .before .before .before .before .before .before .args .words .now) (ap (λ w. alike w (bytesOf "--help")) (sym (c .before .before .before .before .word .ensures)) ∙ sym (c .before .before .same .ensures) ∙ c .before .if2 .taken))
+unfolding bytesOf optionNames optionNamed placeAmong alike upTo
+returns-2 c =
+    let a = c .before .before .before .before .before .before .before .before .before .before .before .before .before .before .before .before .before .before .before .before .before .before .before .before .before .before .before .before .args in
+    let run = c .before .before .before .before .before .before .run-with in
+    let palette = c .before .before .before .before .before .before .before .before .before .before .before .sample-palette in
+    has-run (c .before .before .before .before .before .before .before .before .before .before .before .before .before .before .before .before .before .before .check .ensures) (a .plane .now) (a .palette .now) (a .icc .now) (a .linked-icc .now) (a .cells .now) (a .out .now) (c .before .before .before .before .before .before .before .before .before .before .before .before .before .before .if1 .left)
+    (palette .ensures .0 ∙ sample-chosen (wordsOf (a .words .now)) (a .palette .now) (sym (c .before .before .before .before .before .before .before .before .before .before .before .before .before .is-given .ensures) ∙ c .before .before .before .before .before .before .before .before .before .before .before .before .if2 .taken)) (run .ensures)
 
-first-fault-requires : tie.Need-first-fault-requires
-first-fault-requires c κs = search needs
+run-with-requires-2 : tie.Need-run-with-requires-2
+run-with-requires-2 c κs = omega arith
 
-print-fault-requires : tie.Need-print-fault-requires
-print-fault-requires c κs = search needs
+same-length-5 : tie.Need-same-length-5
+same-length-5 c = search needs
+
+same-length-6 : tie.Need-same-length-6
+same-length-6 c = search needs
+
+same-length-7 : tie.Need-same-length-7
+same-length-7 c = search needs
 
 returns-3 : tie.Need-returns-3
-unfolding bytesOf
+unfolding bytesOf optionNames optionNamed placeAmong alike upTo
 returns-3 c =
-    sym
-    (not-understood (c .before .before .before .before .before .before .before .before .before .args .words .now) (c .before .before .first-fault .result) (pos-of-ne-zero (c .before .before .before .before .before .before .before .if1 .left)) (ap (λ w. alike w (bytesOf "--help")) (sym (c .before .before .before .before .before .before .word .ensures)) ∙ sym (c .before .before .before .before .same .ensures) ∙ c .before .before .before .if2 .left) (c .before .before .first-fault .ensures)
-    (c .before .if3 .taken))
-
-encode-files-requires : tie.Need-encode-files-requires
-encode-files-requires c κs = search needs
-
-returns-4 : tie.Need-returns-4
-returns-4 c = sym (all-understood (c .before .before .before .before .before .before .before .before .before .args .words .now) (c .before .before .first-fault .result) (c .before .before .first-fault .ensures) (c .before .if3 .left))
+    let a = c .before .before .before .before .before .before .before .before .before .before .before .before .before .before .before .before .before .before .before .before .before .before .before .before .before .before .args in
+    let run = c .before .before .before .before .before .before .run-with2 in
+    has-run (c .before .before .before .before .before .before .before .before .before .before .before .before .before .before .before .before .check .ensures) (a .plane .now) (a .palette .now) (a .icc .now) (a .linked-icc .now) (a .cells .now) (a .out .now) (c .before .before .before .before .before .before .before .before .before .before .before .before .if1 .left)
+    (lent-chosen (wordsOf (a .words .now)) (a .palette .now) (sym (c .before .before .before .before .before .before .before .before .before .before .before .is-given .ensures) ∙ c .before .before .before .before .before .before .before .before .before .before .if2 .left)) (run .ensures)
 
 pub run-spec : {M : Type 1} → statement M
 run-spec =
     tie.close
     (tie.spec
-    sample-requires
+    check-requires
+    same-length
     returns
-    word-requires
-    slice-aggregate-same
-    same-requires
-    help-requires
+    is-given-requires
+    sample-palette-requires
+    slice-aggregate-run-with
+    run-with-requires
+    same-length-2
+    same-length-3
+    same-length-4
     returns-2
-    first-fault-requires
-    print-fault-requires
-    returns-3
-    encode-files-requires
-    returns-4)
+    run-with-requires-2
+    same-length-5
+    same-length-6
+    same-length-7
+    returns-3)

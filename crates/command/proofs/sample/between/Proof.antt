@@ -1,3 +1,4 @@
+use mathlib.Core.Path.{refl}
 use native.Mathlib.Omega.{arith}
 use Prim.Native.Nat.{ℕ, _-_, _*_, _≤_, _<_}
 use native.Mathlib.Nat.{mul-le-mul-right}
@@ -13,19 +14,19 @@ sub-result : tie.Need-sub-result
 sub-result c = search needs
 
 mul-result : tie.Need-mul-result
-mul-result c = omega (arith, share (c .args .low) (64 - c .args .f) (c .pre .0), share (c .args .high) (c .args .f) (c .pre .1 .0))
+mul-result c = omega (arith, share (c .args .low) (64 - c .args .far) (c .pre .0), share (c .args .high) (c .args .far) (c .pre .1 .0))
 
 mul-result-2 : tie.Need-mul-result-2
-mul-result-2 c = omega (arith, share (c .args .low) (64 - c .args .f) (c .pre .0), share (c .args .high) (c .args .f) (c .pre .1 .0))
+mul-result-2 c = omega (arith, share (c .args .low) (64 - c .args .far) (c .pre .0), share (c .args .high) (c .args .far) (c .pre .1 .0))
 
 add-result : tie.Need-add-result
-add-result c = omega (arith, share (c .args .low) (64 - c .args .f) (c .pre .0), share (c .args .high) (c .args .f) (c .pre .1 .0))
+add-result c = omega (arith, share (c .args .low) (64 - c .args .far) (c .pre .0), share (c .args .high) (c .args .far) (c .pre .1 .0))
 
 cast-result : tie.Need-cast-result
-cast-result c = omega (arith, share (c .args .low) (64 - c .args .f) (c .pre .0), share (c .args .high) (c .args .f) (c .pre .1 .0))
+cast-result c = omega (arith, share (c .args .low) (64 - c .args .far) (c .pre .0), share (c .args .high) (c .args .far) (c .pre .1 .0))
 
 returns : tie.Need-returns
-returns c = search needs
+returns c = refl
 
 pub between-spec : {M : Type 1} → statement M
 between-spec =

@@ -1,0 +1,84 @@
+/* The command bmp_writer without its files: three proved functions that take the command's words and lent memory.
+ * command.c is the program over them. Link with libcommand.a (rt staticlib command). The header is for C99 and C++98
+ * and later.
+ *
+ * `words` are the program's arguments after its name, one behind another, each with a 0 byte after it. Every pointer
+ * goes with its length in bytes; NULL with length 0 is allowed. `cells`, `out`, `text` and `name` overlap nothing.
+ * `text` has at least words_len + 8192 bytes. A message is put there with its newline and no 0 byte, and is cut where
+ * the cell of a sheet that it quotes is too long. */
+#ifndef BMP_COMMAND_H
+#define BMP_COMMAND_H
+
+#include <stddef.h>
+#include <stdint.h>
+
+#ifdef __cplusplus
+extern "C" {
+#endif
+
+enum bmp_command_status {
+    BMP_COMMAND_DONE = 0,
+    BMP_COMMAND_REFUSED = 1,
+    BMP_COMMAND_NOT_UNDERSTOOD = 2,
+    BMP_COMMAND_WANTS_FILES = 3 /* from bmp_command_check alone: bmp_command is to be called */
+};
+
+/* The files that the words name. */
+enum bmp_command_file_number {
+    BMP_COMMAND_PLANE = 0,
+    BMP_COMMAND_SHEET = 1, /* CSV, in place of the plane */
+    BMP_COMMAND_PALETTE = 2,
+    BMP_COMMAND_ICC = 3,
+    BMP_COMMAND_LINKED_ICC = 4,
+    BMP_COMMAND_OUT = 5
+};
+
+/* 32 bytes. */
+typedef struct {
+    uint64_t bytes;   /* the file's bytes in `out`; 0 where there is none */
+    uint64_t bound;   /* the bytes that `out` must have; 0 where that is not known */
+    uint64_t text;    /* the bytes of the message in `text`, its newline among them */
+    uint32_t status;  /* enum bmp_command_status */
+    uint32_t refusal; /* with status 1: the number of enum bmp_refusal in bmp_writer.h */
+} bmp_command_answer;
+
+/* The places of all fields and the size, as in bmp_writer.h. */
+#if defined(__cplusplus) && __cplusplus >= 201103L
+#define BMP_FACT(name, fact) static_assert(fact, #fact)
+#elif defined(__STDC_VERSION__) && __STDC_VERSION__ >= 201112L
+#define BMP_FACT(name, fact) _Static_assert(fact, #fact)
+#else
+#define BMP_FACT(name, fact) typedef char name[(fact) ? 1 : -1]
+#endif
+#define BMP_PLACE(type, field, place) BMP_FACT(type##_##field##_place, offsetof(type, field) == place)
+#define BMP_BYTES(type, bytes) BMP_FACT(type##_bytes, sizeof(type) == bytes)
+BMP_PLACE(bmp_command_answer, bytes, 0);
+BMP_PLACE(bmp_command_answer, bound, 8);
+BMP_PLACE(bmp_command_answer, text, 16);
+BMP_PLACE(bmp_command_answer, status, 24);
+BMP_PLACE(bmp_command_answer, refusal, 28);
+BMP_BYTES(bmp_command_answer, 32);
+#undef BMP_BYTES
+#undef BMP_PLACE
+#undef BMP_FACT
+
+/* What the words alone say: help, version, or what is wrong with them; 3 where bmp_command is to be called. */
+bmp_command_answer bmp_command_check(const uint8_t *words, size_t words_len, uint8_t *text, size_t text_len);
+
+/* Puts the name of a file that the command reads or writes into `name`, and answers its bytes; 0 where there is none
+ * to read or write. `file` is enum bmp_command_file_number. A profile that will not be written is not named. */
+uint64_t bmp_command_file(const uint8_t *words, size_t words_len, uint32_t file, uint8_t *name, size_t name_len);
+
+/* Runs the command on files in memory. `plane` is the plane, or the sheet; `cells` is scratch memory for the sheet's
+ * cells, which are at most one more than its bytes. Where `out` is too short the answer is refusal 15 with the bound,
+ * and nothing is written. */
+bmp_command_answer bmp_command(const uint8_t *words, size_t words_len, const uint8_t *plane, size_t plane_len,
+                               const uint8_t *palette, size_t palette_len, const uint8_t *icc, size_t icc_len,
+                               const uint8_t *linked_icc, size_t linked_icc_len, uint8_t *cells, size_t cells_len,
+                               uint8_t *out, size_t out_len, uint8_t *text, size_t text_len);
+
+#ifdef __cplusplus
+}
+#endif
+
+#endif

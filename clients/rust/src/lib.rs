@@ -1,0 +1,390 @@
+//! A BMP writer whose every byte is proved, for Rust, over its C interface: types and names as the original encoder has them.
+//! `build.rs` links `libcapi.a` (`rt staticlib capi`).
+
+/// The layout of the lent plane.
+#[derive(Clone, Copy, Debug, PartialEq, Eq)]
+pub enum BmpPixelFormat {
+    Rgba,
+    Rgb24,
+    Bgra,
+    Bgr24,
+    Rgb555,
+    Rgb565,
+    Pal8,
+    Indexed4,
+    Indexed2,
+    Indexed1,
+}
+
+/// What a file was written as.
+#[derive(Clone, Copy, Debug, PartialEq, Eq)]
+pub enum EncodedBmpFormat {
+    Rgb32,
+    Rgb24,
+    Rgb16Rgb,
+    Rgb16Bitfields,
+    Indexed8,
+    Indexed4,
+    Indexed2,
+    Rle8,
+    Rle4,
+    Indexed1,
+    Bitfields,
+    AlphaBitfields,
+}
+
+const WRITTEN: [EncodedBmpFormat; 12] = [
+    EncodedBmpFormat::Rgb32,
+    EncodedBmpFormat::Rgb24,
+    EncodedBmpFormat::Rgb16Rgb,
+    EncodedBmpFormat::Rgb16Bitfields,
+    EncodedBmpFormat::Indexed8,
+    EncodedBmpFormat::Indexed4,
+    EncodedBmpFormat::Indexed2,
+    EncodedBmpFormat::Rle8,
+    EncodedBmpFormat::Rle4,
+    EncodedBmpFormat::Indexed1,
+    EncodedBmpFormat::Bitfields,
+    EncodedBmpFormat::AlphaBitfields,
+];
+
+impl TryFrom<u32> for EncodedBmpFormat {
+    type Error = BmpError;
+
+    /// The C interface's number. One that is not listed, as from a later library, is an error and no panic.
+    fn try_from(number: u32) -> Result<Self> {
+        WRITTEN.get(number as usize).copied().ok_or(BmpError { kind: BmpErrorKind::UnknownFormat, number })
+    }
+}
+
+/// What the number of an error is of.
+#[derive(Clone, Copy, Debug, PartialEq, Eq)]
+pub enum BmpErrorKind {
+    /// The call is refused; no byte of the buffer has changed.
+    Refused,
+    /// The file is written, but as something that this wrapper does not know.
+    UnknownFormat,
+}
+
+/// A call without an answer, and the C interface's number for it.
+#[derive(Clone, Copy, PartialEq, Eq)]
+pub struct BmpError {
+    pub kind: BmpErrorKind,
+    pub number: u32,
+}
+
+impl BmpError {
+    /// The error of a refusal's number.
+    pub fn refused(number: u32) -> Self {
+        Self { kind: BmpErrorKind::Refused, number }
+    }
+
+    /// The cause in words, for a refusal as in the C header.
+    pub fn text(&self) -> &'static str {
+        if self.kind == BmpErrorKind::UnknownFormat {
+            return "unknown number of a written format";
+        }
+        match self.number {
+            0 => "not refused",
+            1 => "width or height is 0",
+            2 => "width or height is over 2147483647",
+            3 => "an indexed format needs a palette",
+            4 => "the palette's bytes are not a multiple of 4",
+            5 => "more than one of masks, calibrated colour and a profile",
+            6 => "the masks' depth is neither 16 nor 32",
+            7 => "a mask has a bit above the depth",
+            8 => "a mask's ones are not one run",
+            9 => "a mask shares a bit with an earlier one",
+            10 => "the masks of red, green and blue are all 0",
+            11 => "masks are for Rgba, Rgb24, Bgra and Bgr24 alone",
+            12 => "the plane is shorter than stride times height",
+            13 => "the stride is below width times the bytes of a pixel",
+            14 => "the file would be over 4294967295 bytes",
+            15 => "the buffer is shorter than the file's bound",
+            16 => "neither the stream nor the plain file fits in 4294967295 bytes",
+            255 => "the format's number is none of those listed",
+            _ => "unknown refusal number",
+        }
+    }
+}
+
+impl std::fmt::Display for BmpError {
+    fn fmt(&self, f: &mut std::fmt::Formatter<'_>) -> std::fmt::Result {
+        write!(f, "{}: {}", self.number, self.text())
+    }
+}
+
+/// The words as well: a `main` that returns the error prints it in this form.
+impl std::fmt::Debug for BmpError {
+    fn fmt(&self, f: &mut std::fmt::Formatter<'_>) -> std::fmt::Result {
+        write!(f, "BmpError({self})")
+    }
+}
+
+impl std::error::Error for BmpError {}
+
+pub type Result<T> = std::result::Result<T, BmpError>;
+
+/// Explicit masks: depth 16 or 32; the alpha mask may be 0.
+#[derive(Clone, Copy, Debug, PartialEq, Eq)]
+pub struct BmpBitfields {
+    pub bpp: u16,
+    pub r: u32,
+    pub g: u32,
+    pub b: u32,
+    pub a: u32,
+}
+
+impl BmpBitfields {
+    /// The mask check: 6 to 10 where it refuses.
+    pub fn validate(&self) -> Result<()> {
+        match unsafe { bmp_check_masks(self.bpp, self.r, self.g, self.b, self.a) } {
+            0 => Ok(()),
+            number => Err(BmpError::refused(number)),
+        }
+    }
+}
+
+/// Nine endpoints (FXPT2DOT30) and three gammas (16.16).
+#[derive(Clone, Copy, Debug, PartialEq, Eq)]
+pub struct CalibratedRgb {
+    pub endpoints: [i32; 9],
+    pub gamma: [u32; 3],
+}
+
+/// The original's options and defaults.
+#[derive(Clone, Debug, PartialEq, Eq)]
+pub struct EncodeOptions {
+    pub top_down: bool,
+    pub minimal_palette: bool,
+    pub rle: bool,
+    pub bitfields: Option<BmpBitfields>,
+    pub embed_icc: bool,
+    pub linked_icc: Option<Vec<u8>>,
+    pub rendering_intent: u32,
+    pub calibrated_rgb: Option<CalibratedRgb>,
+}
+
+impl Default for EncodeOptions {
+    fn default() -> Self {
+        Self {
+            top_down: false,
+            minimal_palette: false,
+            rle: true,
+            bitfields: None,
+            embed_icc: true,
+            linked_icc: None,
+            rendering_intent: 4,
+            calibrated_rgb: None,
+        }
+    }
+}
+
+impl EncodeOptions {
+    pub fn new() -> Self {
+        Self::default()
+    }
+
+    pub fn with_top_down(mut self, top_down: bool) -> Self {
+        self.top_down = top_down;
+        self
+    }
+
+    pub fn with_minimal_palette(mut self, minimal_palette: bool) -> Self {
+        self.minimal_palette = minimal_palette;
+        self
+    }
+
+    pub fn with_rle(mut self, rle: bool) -> Self {
+        self.rle = rle;
+        self
+    }
+
+    pub fn with_bitfields(mut self, bitfields: impl Into<Option<BmpBitfields>>) -> Self {
+        self.bitfields = bitfields.into();
+        self
+    }
+
+    pub fn with_embed_icc(mut self, embed_icc: bool) -> Self {
+        self.embed_icc = embed_icc;
+        self
+    }
+
+    pub fn with_linked_icc(mut self, path: impl Into<Option<Vec<u8>>>) -> Self {
+        self.linked_icc = path.into();
+        self
+    }
+
+    pub fn with_rendering_intent(mut self, intent: u32) -> Self {
+        self.rendering_intent = intent;
+        self
+    }
+
+    pub fn with_calibrated_rgb(mut self, calibrated: impl Into<Option<CalibratedRgb>>) -> Self {
+        self.calibrated_rgb = calibrated.into();
+        self
+    }
+}
+
+/// The picture, borrowed. A palette entry is four bytes: red, green, blue, alpha.
+#[derive(Clone, Copy, Debug)]
+pub struct EncodeSource<'a> {
+    pub format: BmpPixelFormat,
+    pub width: u32,
+    pub height: u32,
+    /// Bytes from one row of the plane to the next.
+    pub stride: usize,
+    pub plane: &'a [u8],
+    pub palette: Option<&'a [u8]>,
+    pub icc: Option<&'a [u8]>,
+}
+
+#[repr(C)]
+#[derive(Clone, Copy)]
+struct RawOptions {
+    top_down: bool,
+    minimal_palette: bool,
+    rle: bool,
+    embed_icc: bool,
+    has_bitfields: bool,
+    has_calibrated: bool,
+    bitfields_bpp: u16,
+    bitfields_masks: [u32; 4],
+    rendering_intent: u32,
+    endpoints: [i32; 9],
+    gamma: [u32; 3],
+}
+
+#[repr(C)]
+#[derive(Clone, Copy)]
+struct RawSource {
+    format: u32,
+    width: u32,
+    height: u32,
+    has_palette: bool,
+    has_icc: bool,
+    has_linked_icc: bool,
+    stride: u64,
+}
+
+#[repr(C)]
+struct RawAnswer {
+    bytes: u64,
+    refusal: u32,
+    format: u32,
+}
+
+#[rustfmt::skip]
+unsafe extern "C" {
+    fn bmp_encode_into(
+        source: RawSource, options: RawOptions, plane: *const u8, plane_len: usize, palette: *const u8, palette_len: usize,
+        icc: *const u8, icc_len: usize, linked_icc: *const u8, linked_icc_len: usize, out: *mut u8, out_len: usize, offset: usize,
+    ) -> RawAnswer;
+    fn bmp_encoded_size_bound(
+        source: RawSource, options: RawOptions, plane: *const u8, plane_len: usize, palette: *const u8, palette_len: usize,
+        icc: *const u8, icc_len: usize, linked_icc: *const u8, linked_icc_len: usize,
+    ) -> RawAnswer;
+    fn bmp_check_masks(bpp: u16, red: u32, green: u32, blue: u32, alpha: u32) -> u32;
+}
+
+fn raw_source(src: &EncodeSource<'_>, options: &EncodeOptions) -> RawSource {
+    RawSource {
+        format: src.format as u32,
+        width: src.width,
+        height: src.height,
+        has_palette: src.palette.is_some(),
+        has_icc: src.icc.is_some(),
+        has_linked_icc: options.linked_icc.is_some(),
+        stride: src.stride as u64,
+    }
+}
+
+fn raw_options(options: &EncodeOptions) -> RawOptions {
+    let masks = options.bitfields.unwrap_or(BmpBitfields { bpp: 0, r: 0, g: 0, b: 0, a: 0 });
+    let calibrated = options.calibrated_rgb.unwrap_or(CalibratedRgb { endpoints: [0; 9], gamma: [0; 3] });
+    RawOptions {
+        top_down: options.top_down,
+        minimal_palette: options.minimal_palette,
+        rle: options.rle,
+        embed_icc: options.embed_icc,
+        has_bitfields: options.bitfields.is_some(),
+        has_calibrated: options.calibrated_rgb.is_some(),
+        bitfields_bpp: masks.bpp,
+        bitfields_masks: [masks.r, masks.g, masks.b, masks.a],
+        rendering_intent: options.rendering_intent,
+        endpoints: calibrated.endpoints,
+        gamma: calibrated.gamma,
+    }
+}
+
+fn accepted(answer: RawAnswer) -> Result<RawAnswer> {
+    match answer.refusal {
+        0 => Ok(answer),
+        number => Err(BmpError::refused(number)),
+    }
+}
+
+/// How many bytes a writing call asks for; no file is longer.
+#[rustfmt::skip]
+pub fn encoded_size_bound(src: &EncodeSource<'_>, options: &EncodeOptions) -> Result<usize> {
+    let (palette, icc) = (src.palette.unwrap_or(&[]), src.icc.unwrap_or(&[]));
+    let linked = options.linked_icc.as_deref().unwrap_or(&[]);
+    // Each pointer goes with the length of its slice, and the call reads no further.
+    let answer = unsafe {
+        bmp_encoded_size_bound(
+            raw_source(src, options), raw_options(options), src.plane.as_ptr(), src.plane.len(), palette.as_ptr(), palette.len(),
+            icc.as_ptr(), icc.len(), linked.as_ptr(), linked.len(),
+        )
+    };
+    Ok(accepted(answer)?.bytes as usize)
+}
+
+/// Appends the file at the offset of a lent buffer; a refused call changes no byte of it.
+#[rustfmt::skip]
+pub fn encode_into(src: &EncodeSource<'_>, options: &EncodeOptions, out: &mut [u8], offset: usize) -> Result<(usize, EncodedBmpFormat)> {
+    let (palette, icc) = (src.palette.unwrap_or(&[]), src.icc.unwrap_or(&[]));
+    let linked = options.linked_icc.as_deref().unwrap_or(&[]);
+    // The same, and `out` is borrowed alone, so it overlaps no input.
+    let answer = unsafe {
+        bmp_encode_into(
+            raw_source(src, options), raw_options(options), src.plane.as_ptr(), src.plane.len(), palette.as_ptr(), palette.len(),
+            icc.as_ptr(), icc.len(), linked.as_ptr(), linked.len(), out.as_mut_ptr(), out.len(), offset,
+        )
+    };
+    let answer = accepted(answer)?;
+    Ok((answer.bytes as usize, answer.format.try_into()?))
+}
+
+/// The file in a buffer of its own.
+pub fn encode(src: &EncodeSource<'_>, options: &EncodeOptions) -> Result<(Vec<u8>, EncodedBmpFormat)> {
+    let mut out = vec![0; encoded_size_bound(src, options)?];
+    let (bytes, format) = encode_into(src, options, &mut out, 0)?;
+    out.truncate(bytes);
+    Ok((out, format))
+}
+
+#[cfg(test)]
+mod layout {
+    use super::*;
+    use std::mem::{offset_of, size_of};
+
+    /// A struct's assertions, as the C header writes them.
+    macro_rules! places {
+        ($name:literal, $raw:ty: $($field:ident),+) => {
+            vec![$(format!("BMP_PLACE({}, {}, {});", $name, stringify!($field), offset_of!($raw, $field)),)+
+                format!("BMP_BYTES({}, {});", $name, size_of::<$raw>())]
+        };
+    }
+
+    /// Every field and size here is where the C header asserts it, and the header asserts no other.
+    #[test]
+    fn the_structs_are_the_headers() {
+        let mut here = places!("bmp_options", RawOptions: top_down, minimal_palette, rle, embed_icc, has_bitfields, has_calibrated,
+            bitfields_bpp, bitfields_masks, rendering_intent, endpoints, gamma);
+        here.extend(places!("bmp_source", RawSource: format, width, height, has_palette, has_icc, has_linked_icc, stride));
+        here.extend(places!("bmp_answer", RawAnswer: bytes, refusal, format));
+        let header = include_str!("../../c/bmp_writer.h");
+        let there: Vec<&str> = header.lines().filter(|l| l.starts_with("BMP_PLACE(") || l.starts_with("BMP_BYTES(")).collect();
+        assert_eq!((here.len(), here), (24, there.into_iter().map(String::from).collect()));
+    }
+}

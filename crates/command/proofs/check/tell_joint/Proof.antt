@@ -1,0 +1,56 @@
+use mathlib.Core.List.{List, []}
+use mathlib.Core.Path.{refl, ap, _∙_, _≡_}
+use Prim.Native.Nat.{ℕ}
+use native.Mathlib.Omega.{arith}
+use borrow.Author.Needs.{needs}
+use Rattle.leaves.specs.Texts.{bytesOf}
+use Rattle.arguments.specs.Words.{onto, pieces, itemsOf, itemAt}
+use Rattle.messages.specs.Messages.{filled}
+use Rattle.messages.proofs.MessageLaws.{says-as}
+use Rattle.command.specs.Commands.{jointLines, jointText}
+use Rattle.command.proofs.check.tell_joint.Statement.{statement}
+use Rattle.command.proofs.check.tell_joint.Tie as tie
+
+lines : itemsOf 124 (bytesOf "|--plane FILE or --csv FILE is missing (--help lists the options)\n|--plane and --csv are both given\n|--width N is missing\n|--height N is missing\n|--csv takes width, height and stride from the sheet\n|--csv is for Pal8, Indexed4, Indexed2 and Indexed1 alone\n|--palette and --sample-palette are both given\n|--out FILE is missing\n") ≡ jointLines
+unfolding bytesOf itemsOf pieces onto jointLines
+lines = refl
+
+item-requires : tie.Need-item-requires
+item-requires c κs = omega arith
+
+slice-aggregate-tell : tie.Need-slice-aggregate-tell
+slice-aggregate-tell c = search needs
+
+slice-aggregate-tell-2 : tie.Need-slice-aggregate-tell-2
+slice-aggregate-tell-2 c = search needs
+
+slice-aggregate-tell-3 : tie.Need-slice-aggregate-tell-3
+slice-aggregate-tell-3 c = search needs
+
+slice-aggregate-tell-4 : tie.Need-slice-aggregate-tell-4
+slice-aggregate-tell-4 c = search needs
+
+tell-requires : tie.Need-tell-requires
+tell-requires c κs = omega arith
+
+same-length : tie.Need-same-length
+same-length c = search needs
+
+returns : tie.Need-returns
+unfolding bytesOf jointText
+returns c =
+    let fault = c .before .before .before .before .before .before .before .before .before .before .before .before .args .fault in
+    says-as (ap (filled [] [] [] []) (c .before .before .before .before .before .before .before .item .ensures ∙ ap (λ (ps : List (List ℕ)). itemAt ps fault) lines)) (c .before .before .tell .ensures)
+
+pub tell-joint-spec : {M : Type 1} → statement M
+tell-joint-spec =
+    tie.close
+    (tie.spec
+    item-requires
+    slice-aggregate-tell
+    slice-aggregate-tell-2
+    slice-aggregate-tell-3
+    slice-aggregate-tell-4
+    tell-requires
+    same-length
+    returns)

@@ -1,0 +1,164 @@
+// What a command's words alone decide.
+ghost use mathlib.Core.Path.{_≡_};
+ghost use Prim.Native.Nat.{_≤_};
+ghost use lib.ListN.{length, drop};
+ghost use Rattle.arguments.specs.Words.{wordsOf};
+ghost use Rattle.messages.specs.Messages.{Says};
+ghost use Rattle.command.specs.Commands.{firstFound, jointFault, faultTextAt, jointText, helpText, versionText, fileNamed};
+ghost use Rattle.command.specs.Runs.{Checked, toldAnswer};
+use crate::CommandAnswer;
+use arguments::options::CSV;
+use arguments::options::HEIGHT;
+use arguments::options::HELP;
+use arguments::options::LINKED_ICC;
+use arguments::options::NO_EMBED_ICC;
+use arguments::options::OUT;
+use arguments::options::PALETTE;
+use arguments::options::PLANE;
+use arguments::options::SAMPLE_PALETTE;
+use arguments::options::SHORT_HELP;
+use arguments::options::STRIDE;
+use arguments::options::VERSION;
+use arguments::options::WIDTH;
+use arguments::options::fault_at;
+use arguments::options::first_fault;
+use arguments::options::format_asked;
+use arguments::options::is_given;
+use arguments::options::name_at;
+use arguments::options::value_at;
+use arguments::options::value_of;
+use arguments::words::both;
+use arguments::words::either;
+use arguments::words::item;
+use messages::message::tell;
+
+// The first fault that is found.
+fn first_found(found: usize, test: bool, number: usize) -> usize
+    ensures { λ r. ⌜ r ≡ firstFound found test number ⌝ }
+{
+    if found != 0 {
+        return found;
+    }
+    if test { number } else { 0 }
+}
+
+// What is missing, or does not go together, by number; 0 where all is well.
+fn joint_fault(words: &[u8]) -> usize
+    ensures { λ r. ⌜ r ≡ jointFault (wordsOf (now (words .entry))) ⌝ }
+{
+    let plane = is_given(words, PLANE);
+    let csv = is_given(words, CSV);
+    let size = either(
+        is_given(words, WIDTH),
+        either(is_given(words, HEIGHT), is_given(words, STRIDE)),
+    );
+    let indexed = format_asked(words).is_indexed();
+    let a = first_found(0, !either(plane, csv), 1);
+    let b = first_found(a, both(plane, csv), 2);
+    let c = first_found(b, both(plane, !is_given(words, WIDTH)), 3);
+    let d = first_found(c, both(plane, !is_given(words, HEIGHT)), 4);
+    let e = first_found(d, both(csv, size), 5);
+    let f = first_found(e, both(csv, !indexed), 6);
+    let g = first_found(
+        f,
+        both(is_given(words, PALETTE), is_given(words, SAMPLE_PALETTE)),
+        7,
+    );
+    first_found(g, !is_given(words, OUT), 8)
+}
+
+// Says what is wrong with the option at a place.
+fn tell_fault(words: &[u8], at: usize, text: &mut [u8]) -> usize
+    requires { ⌜ at ≤ length (now words) ⌝ }
+    ensures { λ r. ⌜ Says (now (text .entry)) 0 (faultTextAt (wordsOf (drop at (now (words .entry))))) (now (text .exit)) r ⌝ }
+{
+    let lines =
+        b"|@ is no option (--help lists the options)\n|@ has no value (--help lists the options)\n|@: '#' is no number from 0 to 4294967295\n|@: '#' is none of Rgba, Rgb24, Bgra, Bgr24, Rgb555, Rgb565, Pal8, Indexed4, Indexed2, Indexed1\n|@: '#' is no list D,R,G,B,A of a depth from 0 to 65535 and four masks from 0 to 4294967295\n|@: '#' is no list of nine endpoints from -2147483648 to 2147483647 and three gammas from 0 to 4294967295\n|@: '#' is no number from 0 to 1152921504606846975\n|@ takes no value, and is given '#'\n|@ is followed by '#': the command takes options only\n";
+    let line = item(lines, fault_at(words, at), b'|');
+    tell(
+        text,
+        line,
+        name_at(words, at),
+        value_at(words, at),
+        b"",
+        b"",
+    )
+}
+
+// Says what is missing, or does not go together.
+fn tell_joint(fault: usize, text: &mut [u8]) -> usize
+    ensures { λ r. ⌜ Says (now (text .entry)) 0 (jointText fault) (now (text .exit)) r ⌝ }
+{
+    let lines =
+        b"|--plane FILE or --csv FILE is missing (--help lists the options)\n|--plane and --csv are both given\n|--width N is missing\n|--height N is missing\n|--csv takes width, height and stride from the sheet\n|--csv is for Pal8, Indexed4, Indexed2 and Indexed1 alone\n|--palette and --sample-palette are both given\n|--out FILE is missing\n";
+    tell(text, item(lines, fault, b'|'), b"", b"", b"", b"")
+}
+
+fn tell_help(text: &mut [u8]) -> usize
+    ensures { λ r. ⌜ Says (now (text .entry)) 0 helpText (now (text .exit)) r ⌝ }
+{
+    tell(
+        text,
+        b"Usage: bmp_writer --plane FILE --width N --height N [OPTION ..] --out FILE\n       bmp_writer --csv FILE [OPTION ..] --out FILE\n\nEncodes a raw plane, or the indices of a sheet, as a BMP file, and prints its format, its bytes and the\nchecksum of `cksum`. The exit status is 0, or 1 where the picture is refused, or 2 where the command is not\nunderstood or a file cannot be read or written; FILE is then as it was.\n\n  --plane FILE            rows from the top; - is standard input\n  --width N, --height N   cells in a row, and rows\n  --stride N              bytes from one row of the plane to the next [a row's bytes]\n  --more-follows          the plane may be longer than stride times height\n  --csv FILE              in place of these: rows of indices, as a spreadsheet saves them\n  --format NAME           Rgba, Rgb24, Bgra, Bgr24, Rgb555, Rgb565, Pal8, Indexed4, Indexed2 or Indexed1 [Pal8]\n  --palette FILE          red, green, blue, alpha of each entry, a byte each\n  --sample-palette        256 entries from dark violet to yellow\n  --out FILE              the file to write; - is standard output\n  --top-down              rows from the top, and no RLE\n  --minimal-palette       a colour table as long as the palette\n  --no-rle                stored rows even where RLE is shorter\n  --bitfields D,R,G,B,A   cells of D bits (16 or 32) with these masks\n  --calibrated-rgb LIST   nine endpoints and three gammas, as the header has them\n  --icc FILE              a colour profile to embed\n  --linked-icc FILE       a linked profile's bytes, taken before an embedded one\n  --no-embed-icc          --icc is not written\n  --rendering-intent N    of a file with a profile [4]\n  --help, -h, --version\n\nA value is the next word, or follows a = as in --width=200; -- may end the options. Numbers are decimal, or\nhexadecimal after 0x; LIST has commas. Of an option given twice the last counts.\n",
+        b"",
+        b"",
+        b"",
+        b"",
+    )
+}
+
+fn tell_version(text: &mut [u8]) -> usize
+    ensures { λ r. ⌜ Says (now (text .entry)) 0 versionText (now (text .exit)) r ⌝ }
+{
+    tell(text, b"bmp_writer 1.0.0\n", b"", b"", b"", b"")
+}
+
+// An answer with no file.
+pub(crate) fn told(status: u32, text: usize) -> CommandAnswer
+    ensures { λ r. ⌜ r ≡ toldAnswer status text ⌝ }
+{
+    CommandAnswer {
+        bytes: 0,
+        bound: 0,
+        text: text as u64,
+        status,
+        refusal: 0,
+    }
+}
+
+// What the words say: an option that is not understood comes first, then help, the version, and what is missing.
+pub fn check(words: &[u8], text: &mut [u8]) -> CommandAnswer
+    ensures { λ r. ⌜ Checked (wordsOf (now (words .entry))) (now (text .entry)) (now (text .exit)) r ⌝ }
+{
+    let at = first_fault(words);
+    if at < words.len() {
+        return told(2, tell_fault(words, at, text));
+    }
+    if either(is_given(words, HELP), is_given(words, SHORT_HELP)) {
+        return told(0, tell_help(text));
+    }
+    if is_given(words, VERSION) {
+        return told(0, tell_version(text));
+    }
+    let fault = joint_fault(words);
+    if fault != 0 {
+        return told(2, tell_joint(fault, text));
+    }
+    told(3, 0)
+}
+
+// A file's name; empty where the command neither reads nor writes it.
+pub fn file_name<'a>(words: &'a [u8], file: u32) -> &'a [u8]
+    ensures { λ r. ⌜ now r ≡ fileNamed file (wordsOf (now (words .entry))) ⌝ }
+{
+    if file > 5 {
+        return &words[0..0];
+    }
+    if both(
+        file == 3,
+        either(is_given(words, NO_EMBED_ICC), is_given(words, LINKED_ICC)),
+    ) {
+        return &words[0..0];
+    }
+    value_of(words, PLANE + file as usize)
+}

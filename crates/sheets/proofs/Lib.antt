@@ -1,0 +1,3 @@
+pub mod SheetLaws
+pub mod CellLoop
+pub mod RowLoop
