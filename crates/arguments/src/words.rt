@@ -58,7 +58,7 @@ fn byte_in(byte: u8, any_case: bool) -> u8
 }
 
 // Whether a name is a text, or in any case of its letters one of small letters.
-pub fn same_in(text: &[u8], name: &[u8], any_case: bool) -> bool
+pub(crate) fn same_in(text: &[u8], name: &[u8], any_case: bool) -> bool
     ensures { λ r. ⌜ r ≡ alike (now (text .entry)) (inCase «any_case» (now (name .entry))) ⌝ }
 {
     if text.len() != name.len() {
