@@ -4,7 +4,7 @@ use mathlib.Core.List.{List, [], _∷_, map}
 use Prim.Native.Nat.{ℕ, _+_}
 use lib.Dec.{eqb, ltb}
 use Rattle.leaves.specs.Formats.{isIndexed}
-use Rattle.leaves.specs.Texts.{bytesOf}
+use Rattle.leaves.specs.Texts.{bytesOf, joined}
 use Rattle.arguments.specs.Options.{numbered, first, isNone, isGiven, valueIn, valueOf, faultAt, firstFault, formatAsked}
 use Rattle.arguments.specs.Words.{upTo, itemAt}
 use Rattle.messages.specs.Messages.{filled}
@@ -69,8 +69,43 @@ jointText fault = filled [] [] [] [] (itemAt jointLines fault)
 
 -- ---- help, and the version
 
+unfoldable pub helpLines : List (List ℕ)
+helpLines =
+    map bytesOf
+    ("Usage: bmp_writer --plane FILE --width N --height N [OPTION ..] --out FILE"
+    ∷ "       bmp_writer --csv FILE [OPTION ..] --out FILE"
+    ∷ ""
+    ∷ "Encodes a raw plane, or the indices of a sheet, as a BMP file, and prints its format, its bytes and the"
+    ∷ "checksum of `cksum`. The exit status is 0, or 1 where the picture is refused, or 2 where the command is not"
+    ∷ "understood or a file cannot be read or written; FILE is then as it was."
+    ∷ ""
+    ∷ "  --plane FILE            rows from the top; - is standard input"
+    ∷ "  --width N, --height N   cells in a row, and rows"
+    ∷ "  --stride N              bytes from one row of the plane to the next [a row's bytes]"
+    ∷ "  --more-follows          the plane may be longer than stride times height"
+    ∷ "  --csv FILE              in place of these: rows of indices, as a spreadsheet saves them"
+    ∷ "  --format NAME           Rgba, Rgb24, Bgra, Bgr24, Rgb555, Rgb565, Pal8, Indexed4, Indexed2 or Indexed1 [Pal8]"
+    ∷ "  --palette FILE          red, green, blue, alpha of each entry, a byte each"
+    ∷ "  --sample-palette        256 entries from dark violet to yellow"
+    ∷ "  --out FILE              the file to write; - is standard output"
+    ∷ "  --top-down              rows from the top, and no RLE"
+    ∷ "  --minimal-palette       a colour table as long as the palette"
+    ∷ "  --no-rle                stored rows even where RLE is shorter"
+    ∷ "  --bitfields D,R,G,B,A   cells of D bits (16 or 32) with these masks"
+    ∷ "  --calibrated-rgb LIST   nine endpoints and three gammas, as the header has them"
+    ∷ "  --icc FILE              a colour profile to embed"
+    ∷ "  --linked-icc FILE       a linked profile's bytes, taken before an embedded one"
+    ∷ "  --no-embed-icc          --icc is not written"
+    ∷ "  --rendering-intent N    of a file with a profile [4]"
+    ∷ "  --help, -h, --version"
+    ∷ ""
+    ∷ "A value is the next word, or follows a = as in --width=200; -- may end the options. Numbers are decimal, or"
+    ∷ "hexadecimal after 0x; LIST has commas. Of an option given twice the last counts."
+    ∷ ""
+    ∷ [])
+
 unfoldable pub helpText : List ℕ
-helpText = filled [] [] [] [] (bytesOf "Usage: bmp_writer --plane FILE --width N --height N [OPTION ..] --out FILE\n       bmp_writer --csv FILE [OPTION ..] --out FILE\n\nEncodes a raw plane, or the indices of a sheet, as a BMP file, and prints its format, its bytes and the\nchecksum of `cksum`. The exit status is 0, or 1 where the picture is refused, or 2 where the command is not\nunderstood or a file cannot be read or written; FILE is then as it was.\n\n  --plane FILE            rows from the top; - is standard input\n  --width N, --height N   cells in a row, and rows\n  --stride N              bytes from one row of the plane to the next [a row's bytes]\n  --more-follows          the plane may be longer than stride times height\n  --csv FILE              in place of these: rows of indices, as a spreadsheet saves them\n  --format NAME           Rgba, Rgb24, Bgra, Bgr24, Rgb555, Rgb565, Pal8, Indexed4, Indexed2 or Indexed1 [Pal8]\n  --palette FILE          red, green, blue, alpha of each entry, a byte each\n  --sample-palette        256 entries from dark violet to yellow\n  --out FILE              the file to write; - is standard output\n  --top-down              rows from the top, and no RLE\n  --minimal-palette       a colour table as long as the palette\n  --no-rle                stored rows even where RLE is shorter\n  --bitfields D,R,G,B,A   cells of D bits (16 or 32) with these masks\n  --calibrated-rgb LIST   nine endpoints and three gammas, as the header has them\n  --icc FILE              a colour profile to embed\n  --linked-icc FILE       a linked profile's bytes, taken before an embedded one\n  --no-embed-icc          --icc is not written\n  --rendering-intent N    of a file with a profile [4]\n  --help, -h, --version\n\nA value is the next word, or follows a = as in --width=200; -- may end the options. Numbers are decimal, or\nhexadecimal after 0x; LIST has commas. Of an option given twice the last counts.\n")
+helpText = filled [] [] [] [] (joined 10 helpLines)
 
 unfoldable pub versionText : List ℕ
 versionText = filled [] [] [] [] (bytesOf "bmp_writer 1.0.0\n")

@@ -31,6 +31,7 @@ use arguments::words::both;
 use arguments::words::either;
 use arguments::words::item;
 use messages::message::tell;
+use messages::message::tell_line;
 
 // The first fault that is found.
 fn first_found(found: usize, test: bool, number: usize) -> usize
@@ -72,8 +73,15 @@ fn tell_fault(words: &[u8], at: usize, text: &mut [u8]) -> usize
     requires { ⌜ at ≤ length (now words) ⌝ }
     ensures { λ r. ⌜ Says (now (text .entry)) 0 (faultTextAt (wordsOf (drop at (now (words .entry))))) (now (text .exit)) r ⌝ }
 {
-    let lines =
-        b"|@ is no option (--help lists the options)\n|@ has no value (--help lists the options)\n|@: '#' is no number from 0 to 4294967295\n|@: '#' is none of Rgba, Rgb24, Bgra, Bgr24, Rgb555, Rgb565, Pal8, Indexed4, Indexed2, Indexed1\n|@: '#' is no list D,R,G,B,A of a depth from 0 to 65535 and four masks from 0 to 4294967295\n|@: '#' is no list of nine endpoints from -2147483648 to 2147483647 and three gammas from 0 to 4294967295\n|@: '#' is no number from 0 to 1152921504606846975\n|@ takes no value, and is given '#'\n|@ is followed by '#': the command takes options only\n";
+    let lines = b"|@ is no option (--help lists the options)\n\
+        |@ has no value (--help lists the options)\n\
+        |@: '#' is no number from 0 to 4294967295\n\
+        |@: '#' is none of Rgba, Rgb24, Bgra, Bgr24, Rgb555, Rgb565, Pal8, Indexed4, Indexed2, Indexed1\n\
+        |@: '#' is no list D,R,G,B,A of a depth from 0 to 65535 and four masks from 0 to 4294967295\n\
+        |@: '#' is no list of nine endpoints from -2147483648 to 2147483647 and three gammas from 0 to 4294967295\n\
+        |@: '#' is no number from 0 to 1152921504606846975\n\
+        |@ takes no value, and is given '#'\n\
+        |@ is followed by '#': the command takes options only\n";
     let line = item(lines, fault_at(words, at), b'|');
     tell(
         text,
@@ -89,28 +97,59 @@ fn tell_fault(words: &[u8], at: usize, text: &mut [u8]) -> usize
 fn tell_joint(fault: usize, text: &mut [u8]) -> usize
     ensures { λ r. ⌜ Says (now (text .entry)) 0 (jointText fault) (now (text .exit)) r ⌝ }
 {
-    let lines =
-        b"|--plane FILE or --csv FILE is missing (--help lists the options)\n|--plane and --csv are both given\n|--width N is missing\n|--height N is missing\n|--csv takes width, height and stride from the sheet\n|--csv is for Pal8, Indexed4, Indexed2 and Indexed1 alone\n|--palette and --sample-palette are both given\n|--out FILE is missing\n";
-    tell(text, item(lines, fault, b'|'), b"", b"", b"", b"")
+    let lines = b"|--plane FILE or --csv FILE is missing (--help lists the options)\n\
+        |--plane and --csv are both given\n\
+        |--width N is missing\n\
+        |--height N is missing\n\
+        |--csv takes width, height and stride from the sheet\n\
+        |--csv is for Pal8, Indexed4, Indexed2 and Indexed1 alone\n\
+        |--palette and --sample-palette are both given\n\
+        |--out FILE is missing\n";
+    tell_line(text, item(lines, fault, b'|'))
 }
 
 fn tell_help(text: &mut [u8]) -> usize
     ensures { λ r. ⌜ Says (now (text .entry)) 0 helpText (now (text .exit)) r ⌝ }
 {
-    tell(
+    tell_line(
         text,
-        b"Usage: bmp_writer --plane FILE --width N --height N [OPTION ..] --out FILE\n       bmp_writer --csv FILE [OPTION ..] --out FILE\n\nEncodes a raw plane, or the indices of a sheet, as a BMP file, and prints its format, its bytes and the\nchecksum of `cksum`. The exit status is 0, or 1 where the picture is refused, or 2 where the command is not\nunderstood or a file cannot be read or written; FILE is then as it was.\n\n  --plane FILE            rows from the top; - is standard input\n  --width N, --height N   cells in a row, and rows\n  --stride N              bytes from one row of the plane to the next [a row's bytes]\n  --more-follows          the plane may be longer than stride times height\n  --csv FILE              in place of these: rows of indices, as a spreadsheet saves them\n  --format NAME           Rgba, Rgb24, Bgra, Bgr24, Rgb555, Rgb565, Pal8, Indexed4, Indexed2 or Indexed1 [Pal8]\n  --palette FILE          red, green, blue, alpha of each entry, a byte each\n  --sample-palette        256 entries from dark violet to yellow\n  --out FILE              the file to write; - is standard output\n  --top-down              rows from the top, and no RLE\n  --minimal-palette       a colour table as long as the palette\n  --no-rle                stored rows even where RLE is shorter\n  --bitfields D,R,G,B,A   cells of D bits (16 or 32) with these masks\n  --calibrated-rgb LIST   nine endpoints and three gammas, as the header has them\n  --icc FILE              a colour profile to embed\n  --linked-icc FILE       a linked profile's bytes, taken before an embedded one\n  --no-embed-icc          --icc is not written\n  --rendering-intent N    of a file with a profile [4]\n  --help, -h, --version\n\nA value is the next word, or follows a = as in --width=200; -- may end the options. Numbers are decimal, or\nhexadecimal after 0x; LIST has commas. Of an option given twice the last counts.\n",
-        b"",
-        b"",
-        b"",
-        b"",
+        b"Usage: bmp_writer --plane FILE --width N --height N [OPTION ..] --out FILE
+       bmp_writer --csv FILE [OPTION ..] --out FILE
+
+Encodes a raw plane, or the indices of a sheet, as a BMP file, and prints its format, its bytes and the
+checksum of `cksum`. The exit status is 0, or 1 where the picture is refused, or 2 where the command is not
+understood or a file cannot be read or written; FILE is then as it was.
+
+  --plane FILE            rows from the top; - is standard input
+  --width N, --height N   cells in a row, and rows
+  --stride N              bytes from one row of the plane to the next [a row's bytes]
+  --more-follows          the plane may be longer than stride times height
+  --csv FILE              in place of these: rows of indices, as a spreadsheet saves them
+  --format NAME           Rgba, Rgb24, Bgra, Bgr24, Rgb555, Rgb565, Pal8, Indexed4, Indexed2 or Indexed1 [Pal8]
+  --palette FILE          red, green, blue, alpha of each entry, a byte each
+  --sample-palette        256 entries from dark violet to yellow
+  --out FILE              the file to write; - is standard output
+  --top-down              rows from the top, and no RLE
+  --minimal-palette       a colour table as long as the palette
+  --no-rle                stored rows even where RLE is shorter
+  --bitfields D,R,G,B,A   cells of D bits (16 or 32) with these masks
+  --calibrated-rgb LIST   nine endpoints and three gammas, as the header has them
+  --icc FILE              a colour profile to embed
+  --linked-icc FILE       a linked profile's bytes, taken before an embedded one
+  --no-embed-icc          --icc is not written
+  --rendering-intent N    of a file with a profile [4]
+  --help, -h, --version
+
+A value is the next word, or follows a = as in --width=200; -- may end the options. Numbers are decimal, or
+hexadecimal after 0x; LIST has commas. Of an option given twice the last counts.
+",
     )
 }
 
 fn tell_version(text: &mut [u8]) -> usize
     ensures { λ r. ⌜ Says (now (text .entry)) 0 versionText (now (text .exit)) r ⌝ }
 {
-    tell(text, b"bmp_writer 1.0.0\n", b"", b"", b"", b"")
+    tell_line(text, b"bmp_writer 1.0.0\n")
 }
 
 // An answer with no file.

@@ -41,6 +41,7 @@ use leaves::image::BmpPixelFormat;
 use messages::checksum::checksum;
 use messages::message::in_decimal;
 use messages::message::tell;
+use messages::message::tell_line;
 use planner::encoder::Encoded;
 use planner::encoder::encode_into;
 use planner::plan::SizeBound;
@@ -119,8 +120,22 @@ fn tell_written(name: &[u8], format: EncodedBmpFormat, file: &[u8], text: &mut [
 fn tell_refusal(why: Refusal, text: &mut [u8]) -> usize
     ensures { λ r. ⌜ Says (now (text .entry)) 0 (filled (decimal (numberOf why)) (itemAt causes (numberOf why)) [] [] refusedLine) (now (text .exit)) r ⌝ }
 {
-    let causes =
-        b"|width or height is 0|width or height is over 2147483647|an indexed format needs a palette|the palette's bytes are not a multiple of 4|more than one of masks, calibrated colour and a profile|the masks' depth is neither 16 nor 32|a mask has a bit above the depth|a mask's ones are not one run|a mask shares a bit with an earlier one|the masks of red, green and blue are all 0|masks are for Rgba, Rgb24, Bgra and Bgr24 alone|the plane is shorter than stride times height|the stride is below width times the bytes of a pixel|the file would be over 4294967295 bytes|the buffer is shorter than the file's bound|neither the stream nor the plain file fits in 4294967295 bytes";
+    let causes = b"|width or height is 0\
+        |width or height is over 2147483647\
+        |an indexed format needs a palette\
+        |the palette's bytes are not a multiple of 4\
+        |more than one of masks, calibrated colour and a profile\
+        |the masks' depth is neither 16 nor 32\
+        |a mask has a bit above the depth\
+        |a mask's ones are not one run\
+        |a mask shares a bit with an earlier one\
+        |the masks of red, green and blue are all 0\
+        |masks are for Rgba, Rgb24, Bgra and Bgr24 alone\
+        |the plane is shorter than stride times height\
+        |the stride is below width times the bytes of a pixel\
+        |the file would be over 4294967295 bytes\
+        |the buffer is shorter than the file's bound\
+        |neither the stream nor the plain file fits in 4294967295 bytes";
     let number = why.number();
     let a = in_decimal(number as u64);
     let digits = a.digits;
@@ -153,8 +168,10 @@ fn tell_cell(
     most: u8,
     text: &mut [u8],
 ) -> usize {
-    let lines =
-        b"@: row #, column %: '&' is no index from 0 to 255\n|@: row #, column %: '&' is no index from 0 to 15\n|@: row #, column %: '&' is no index from 0 to 3\n|@: row #, column %: '&' is no index from 0 to 1\n";
+    let lines = b"@: row #, column %: '&' is no index from 0 to 255\n|\
+        @: row #, column %: '&' is no index from 0 to 15\n|\
+        @: row #, column %: '&' is no index from 0 to 3\n|\
+        @: row #, column %: '&' is no index from 0 to 1\n";
     let which = match most {
         255 => 0,
         15 => 1,
@@ -355,14 +372,7 @@ fn run_sheet<'a>(
         }
         Sheet::NoRoom => told(
             2,
-            tell(
-                text,
-                b"not enough memory for the sheet's cells\n",
-                b"",
-                b"",
-                b"",
-                b"",
-            ),
+            tell_line(text, b"not enough memory for the sheet's cells\n"),
         ),
     }
 }

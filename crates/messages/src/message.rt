@@ -1,5 +1,6 @@
 // Messages in lent memory: as much of one as fits.
 ghost use mathlib.Core.Path.{_≡_};
+ghost use mathlib.Core.List.{[]};
 ghost use Prim.Native.Nat.{_≤_, _<_};
 ghost use lib.ListN.{length, getD, drop};
 ghost use Rattle.messages.specs.Messages.{decimal, pieceFor, filled, Says};
@@ -88,4 +89,11 @@ pub fn tell(text: &mut [u8], line: &[u8], a: &[u8], b: &[u8], c: &[u8], d: &[u8]
         i += 1;
     }
     at
+}
+
+// Puts a line without marks.
+pub fn tell_line(text: &mut [u8], line: &[u8]) -> usize
+    ensures { λ r. ⌜ Says (now (text .entry)) 0 (filled [] [] [] [] (now (line .entry))) (now (text .exit)) r ⌝ }
+{
+    tell(text, line, b"", b"", b"", b"")
 }

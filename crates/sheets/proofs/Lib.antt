@@ -1,3 +1,4 @@
 pub mod SheetLaws
 pub mod CellLoop
 pub mod RowLoop
+pub mod Examples

@@ -18,20 +18,8 @@ lines = refl
 item-requires : tie.Need-item-requires
 item-requires c κs = omega arith
 
-slice-aggregate-tell : tie.Need-slice-aggregate-tell
-slice-aggregate-tell c = search needs
-
-slice-aggregate-tell-2 : tie.Need-slice-aggregate-tell-2
-slice-aggregate-tell-2 c = search needs
-
-slice-aggregate-tell-3 : tie.Need-slice-aggregate-tell-3
-slice-aggregate-tell-3 c = search needs
-
-slice-aggregate-tell-4 : tie.Need-slice-aggregate-tell-4
-slice-aggregate-tell-4 c = search needs
-
-tell-requires : tie.Need-tell-requires
-tell-requires c κs = omega arith
+tell-line-requires : tie.Need-tell-line-requires
+tell-line-requires c κs = omega arith
 
 same-length : tie.Need-same-length
 same-length c = search needs
@@ -39,18 +27,7 @@ same-length c = search needs
 returns : tie.Need-returns
 unfolding bytesOf jointText
 returns c =
-    let fault = c .before .before .before .before .before .before .before .before .before .before .before .before .args .fault in
-    says-as (ap (filled [] [] [] []) (c .before .before .before .before .before .before .before .item .ensures ∙ ap (λ (ps : List (List ℕ)). itemAt ps fault) lines)) (c .before .before .tell .ensures)
+    says-as (ap (filled [] [] [] []) (c .before .before .before .item .ensures ∙ ap (λ (ps : List (List ℕ)). itemAt ps (c .before .before .before .before .before .before .before .before .args .fault)) lines)) (c .before .before .tell-line .ensures)
 
 pub tell-joint-spec : {M : Type 1} → statement M
-tell-joint-spec =
-    tie.close
-    (tie.spec
-    item-requires
-    slice-aggregate-tell
-    slice-aggregate-tell-2
-    slice-aggregate-tell-3
-    slice-aggregate-tell-4
-    tell-requires
-    same-length
-    returns)
+tell-joint-spec = tie.close (tie.spec item-requires tell-line-requires same-length returns)

@@ -59,23 +59,11 @@ told-requires-2 c κs = omega arith
 enum-told : tie.Need-enum-told
 enum-told c = search needs
 
-slice-aggregate-tell : tie.Need-slice-aggregate-tell
-slice-aggregate-tell c = search needs
+slice-aggregate-tell-line : tie.Need-slice-aggregate-tell-line
+slice-aggregate-tell-line c = search needs
 
-slice-aggregate-tell-2 : tie.Need-slice-aggregate-tell-2
-slice-aggregate-tell-2 c = search needs
-
-slice-aggregate-tell-3 : tie.Need-slice-aggregate-tell-3
-slice-aggregate-tell-3 c = search needs
-
-slice-aggregate-tell-4 : tie.Need-slice-aggregate-tell-4
-slice-aggregate-tell-4 c = search needs
-
-slice-aggregate-tell-5 : tie.Need-slice-aggregate-tell-5
-slice-aggregate-tell-5 c = search needs
-
-tell-requires : tie.Need-tell-requires
-tell-requires c κs = omega arith
+tell-line-requires : tie.Need-tell-line-requires
+tell-line-requires c κs = omega arith
 
 told-requires-3 : tie.Need-told-requires-3
 told-requires-3 c κs = omega arith
@@ -146,13 +134,13 @@ same-length-9 c = search needs
 
 returns-4 : tie.Need-returns-4
 returns-4 c =
-    let a = c .before .before .before .before .before .before .before .before .before .before .before .before .before .before .before .before .before .before .before .before .before .before .before .before .before .before .args in
+    let a = c .before .before .before .before .before .before .before .before .before .before .before .before .before .before .before .before .before .before .before .before .before .before .args in
     let ws = wordsOf (a .words .now) in
-    let most = c .before .before .before .before .before .before .before .before .before .before .before .before .before .before .before .before .most-index .ensures ∙ ap mostIndex (c .before .before .before .before .before .before .before .before .before .before .before .before .before .before .before .before .before .format-asked .ensures) in
-    let read = c .before .before .before .before .before .before .before .before .before .before .before .before .before .before .read-sheet in
+    let most = c .before .before .before .before .before .before .before .before .before .before .before .before .most-index .ensures ∙ ap mostIndex (c .before .before .before .before .before .before .before .before .before .before .before .before .before .format-asked .ensures) in
+    let read = c .before .before .before .before .before .before .before .before .before .before .read-sheet in
     let cells = read .last .1 .1 .0 in
     no-grid ws (a .sheet .now) (a .palette .now) (a .icc .now) (a .linked-icc .now) (a .cells .now)
-    (inr (no-room ws (a .sheet .now) (a .palette .now) (a .icc .now) (a .linked-icc .now) (a .cells .now) (c .before .before .before .before .before .before .before .before .before .before .before .before .before .before .before .before .most-index .result) cells most (read .result) (read .ensures) (c .before .before .before .before .before .before .before .before .before .before .enum-told .given .1)))
+    (inr (no-room ws (a .sheet .now) (a .palette .now) (a .icc .now) (a .linked-icc .now) (a .cells .now) (c .before .before .before .before .before .before .before .before .before .before .before .before .most-index .result) cells most (read .result) (read .ensures) (c .before .before .before .before .before .before .enum-told .given .1)))
     (c .told3 .ensures)
 
 pub run-sheet-spec : {M : Type 1} → statement M
@@ -176,12 +164,8 @@ run-sheet-spec =
     tell-ragged-requires
     told-requires-2
     enum-told
-    slice-aggregate-tell
-    slice-aggregate-tell-2
-    slice-aggregate-tell-3
-    slice-aggregate-tell-4
-    slice-aggregate-tell-5
-    tell-requires
+    slice-aggregate-tell-line
+    tell-line-requires
     told-requires-3
     same-length
     same-length-2
