@@ -1,7 +1,6 @@
 -- Words of commands, by computation.
-use mathlib.Core.List.{List, [], _∷_, map}
+use mathlib.Core.List.{[], _∷_, map}
 use mathlib.Core.Path.{_≡_, refl}
-use Prim.Native.Nat.{ℕ}
 use Rattle.leaves.specs.Texts.{bytesOf}
 use Rattle.arguments.specs.Numbers.{digitOf, digitsFrom, digitsOf, numberOf, isNumber, isNumber32}
 use Rattle.arguments.specs.Options.{optionNames, optionNamed, standsAlone, carriesValue, carried, isWhole, optionsIn, first, second, isNone, lastOf, lastGiven, valueIn, valueOf, formatNames, formatNumbered, isFormat, unless, faultOfName, faultOf, faultAlone, faultLast, faultAt, numbered}

@@ -10,7 +10,7 @@ use borrow.Author.Tests.{eq-eqb, ne-eqb, eqb-true, eqb-false, le-leb, leb-false}
 use lib.Dec.{eqb, leb}
 use lib.ListN.{length, getD, take, drop, drop-of-length-le, length-drop}
 use lib.Seq.{drop-cons, drop-drop, take-all}
-use Rattle.arguments.specs.Words.{upTo, onto, pieces, wordsOf, itemsOf, itemAt, alike, lowered, byteIn, inCase, placeAmong}
+use Rattle.arguments.specs.Words.{upTo, onto, pieces, wordsOf, itemsOf, itemAt, alike, byteIn, inCase, placeAmong}
 
 -- one number more that it is not
 pub above : (k n : ℕ) → k ≤ n → (n ≡ k → ⊥) → k + 1 ≤ n

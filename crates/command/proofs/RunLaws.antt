@@ -1,5 +1,5 @@
 -- Numbers in messages, and the answers of a run.
-use mathlib.Core.Bool.{Bool, true, false, cond, not, _&&_}
+use mathlib.Core.Bool.{Bool, true, false, cond}
 use mathlib.Core.Logic.{_⊎_, inl, inr}
 use mathlib.Core.List.{List, []}
 use mathlib.Core.Path.{_≡_, refl, sym, ap, subst, _∙_}
@@ -31,7 +31,7 @@ use Rattle.sheets.specs.Sheets.{sheetRows, widthOf, isGrid, cellsOf, SheetRead}
 use Rattle.sheets.specs.declared.Sheet.{Sheet}
 use Rattle.sheets.specs.declared.Sheet.the-variants as reads
 use Rattle.command.specs.Commands.{jointFault, jointText, faultTextAt, helpText, versionText, asksHelp, checkStatus, checkText}
-use Rattle.command.specs.Runs.{causes, toldAnswer, tooLong, isTooLong, tooLongText, writtenAnswer, writtenText, writtenLine, refusedLine, Checked, TooLong, Writes, Encodes, NotRun, NoGrid, mostIndex, sheetSource, paletteFor, planeInput, sheetInput, isIndexGrid, SheetRun, Runs, Ran}
+use Rattle.command.specs.Runs.{causes, toldAnswer, tooLong, tooLongText, writtenAnswer, writtenText, writtenLine, refusedLine, Checked, Encodes, mostIndex, sheetSource, paletteFor, sheetInput, isIndexGrid, SheetRun, Runs, Ran}
 use Rattle.command.specs.Sample.{samplePalette}
 use Rattle.command.specs.declared.CommandAnswer.{CommandAnswer}
 

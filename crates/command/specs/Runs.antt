@@ -1,21 +1,19 @@
 -- What the command promises, of its words, the files and the lent memory.
-use mathlib.Core.Bool.{Bool, true, false, cond, not, _&&_, _||_}
+use mathlib.Core.Bool.{Bool, true, false, cond, not, _&&_}
 use mathlib.Core.Logic.{_⊎_}
 use mathlib.Core.Path.{_≡_}
 use mathlib.Core.List.{List, [], _∷_, map}
-use Prim.Native.Nat.{ℕ, _+_, _-_, _*_, _^_, _<_, min}
-use lib.Dec.{eqb, ltb}
-use lib.ListN.{length, take, drop}
+use Prim.Native.Nat.{ℕ, _*_, _<_, min}
+use lib.Dec.{ltb}
+use lib.ListN.{length, take}
 use Rattle.leaves.specs.declared.encoder.EncodeSource.{EncodeSource}
 use Rattle.leaves.specs.declared.image.BmpPixelFormat.{BmpPixelFormat}
 use Rattle.leaves.specs.declared.image.BmpPixelFormat.the-variants as source
 use Rattle.leaves.specs.Formats.{writtenName}
-use Rattle.leaves.specs.Refusals.{numberOf, firstNumber}
+use Rattle.leaves.specs.Refusals.{numberOf}
 use Rattle.leaves.specs.Texts.{bytesOf}
-use Rattle.format.specs.File.{maxFile}
 use Rattle.format.specs.Input.{Input}
-use Rattle.format.specs.Refusals.{planRows}
-use Rattle.planner.specs.Answers.{Written, Sized, boundBytes, encodedNumber, encodedBytes}
+use Rattle.planner.specs.Answers.{Written, Sized, boundBytes}
 use Rattle.planner.specs.Calls.{called}
 use Rattle.planner.specs.declared.encoder.Encoded.{Encoded}
 use Rattle.planner.specs.declared.encoder.Encoded.the-variants as encoded
@@ -67,8 +65,8 @@ causes =
 
 -- where the size query passes: more bytes than the rows take, unless more may follow
 abbrev pub tooLong : SizeBound → EncodeSource → ℕ → Bool → Bool
-tooLong (sized.Bytes bytes) s length more = ltb (s .stride * s .height) length && not more
-tooLong (sized.Refused why) s length more = false
+tooLong (sized.Bytes bound) s bytes more = ltb (s .stride * s .height) bytes && not more
+tooLong (sized.Refused why) s bytes more = false
 
 abbrev pub isTooLong : SizeBound → List (List ℕ) → Input → Bool
 isTooLong bound ws i = tooLong bound (i .source) (length (i .plane)) (isGiven (numbered "--more-follows") ws)

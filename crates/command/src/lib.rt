@@ -1,9 +1,8 @@
 // The command on memory that the caller lends: what its words ask for, the files it needs, and its run. A front in C, or
 // another program, reads and writes the files. `clients/c/bmp_command.h` declares the same.
-ghost use mathlib.Core.Path.{_≡_};
 ghost use Rattle.arguments.specs.Words.{wordsOf};
 ghost use Rattle.messages.specs.Messages.{Says};
-ghost use Rattle.command.specs.Commands.{checkStatus, checkText, fileNamed};
+ghost use Rattle.command.specs.Commands.{fileNamed};
 ghost use Rattle.command.specs.Runs.{Checked, Ran};
 use crate::check::check;
 use crate::check::file_name;

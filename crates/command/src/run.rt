@@ -12,7 +12,7 @@ ghost use Rattle.messages.specs.Checksum.{cksum};
 ghost use Rattle.messages.specs.Messages.{decimal, filled, Says};
 ghost use Rattle.planner.specs.Answers.{boundBytes};
 ghost use Rattle.planner.specs.Calls.{called};
-ghost use Rattle.command.specs.Runs.{causes, tooLong, tooLongLine, writtenLine, refusedLine, writtenAnswer, writtenText, Encodes, mostIndex, sheetSource, paletteFor, SheetRun, Runs, Ran};
+ghost use Rattle.command.specs.Runs.{causes, tooLong, tooLongLine, writtenLine, refusedLine, writtenAnswer, writtenText, Encodes, mostIndex, sheetSource, SheetRun, Runs, Ran};
 use crate::CommandAnswer;
 use crate::check::check;
 use crate::check::told;

@@ -1,7 +1,6 @@
 -- Numbers, a line and checksums, by computation; the checksums are those that `cksum` prints.
-use mathlib.Core.List.{List, [], _∷_, map}
+use mathlib.Core.List.{[], _∷_, map}
 use mathlib.Core.Path.{_≡_, refl}
-use Prim.Native.Nat.{ℕ}
 use Rattle.leaves.specs.Texts.{bytesOf}
 use Rattle.messages.specs.Checksum.{crcBit, crcBits, crcByte, crcOf, bytesIn, cksum}
 use Rattle.messages.specs.Messages.{decimalIn, decimal, pieceFor, filled}

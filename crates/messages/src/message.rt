@@ -4,7 +4,6 @@ ghost use mathlib.Core.List.{[]};
 ghost use Prim.Native.Nat.{_≤_, _<_};
 ghost use lib.ListN.{length, getD, drop};
 ghost use Rattle.messages.specs.Messages.{decimal, pieceFor, filled, Says};
-use arguments::words::part;
 use leaves::buffer::put_slice;
 
 // A number in decimal: the digits from a place on.

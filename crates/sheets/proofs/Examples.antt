@@ -1,12 +1,11 @@
 -- Sheets as spreadsheets write them, by computation.
-use mathlib.Core.Bool.{Bool, true, false}
-use mathlib.Core.List.{List, [], _∷_, map}
+use mathlib.Core.Bool.{true, false}
+use mathlib.Core.List.{[], _∷_, map}
 use mathlib.Core.Path.{_≡_, refl}
-use Prim.Native.Nat.{ℕ}
 use Rattle.leaves.specs.Texts.{bytesOf}
 use Rattle.arguments.specs.Numbers.{digitOf, digitsFrom, digitsOf, numberOf}
 use Rattle.arguments.specs.Words.{upTo, onto, pieces, itemsOf, alike}
-use Rattle.sheets.specs.Sheets.{isSeparator, separatorOf, withoutMark, linesOf, withoutReturn, afterBlanks, indexOf, rowOf, rowsOf, sheetRows, widthOf, upToBad, isGrid}
+use Rattle.sheets.specs.Sheets.{isSeparator, separatorOf, withoutMark, linesOf, withoutReturn, afterBlanks, indexOf, rowOf, rowsOf, sheetRows, widthOf, areIndices, isGrid}
 
 -- commas, semicolons with CR LF and no end, a tab beside a blank, one column, no row, and a cell that is no number
 pub sheets-hold : map (λ t. sheetRows (bytesOf t)) ("1,2\n3,0x1F\n" ∷ "1;2\r\n3;4" ∷ " 7\t8\n" ∷ "5\n6\n" ∷ "" ∷ "1,x\n" ∷ [])
@@ -21,5 +20,5 @@ mark-skipped = refl
 
 -- a grid, an index over the largest, and a row that is shorter than the first
 pub grids-hold : map (λ rows. isGrid 15 (widthOf rows) rows) (((1 ∷ 15 ∷ []) ∷ (0 ∷ 3 ∷ []) ∷ []) ∷ ((1 ∷ 16 ∷ []) ∷ []) ∷ ((1 ∷ 2 ∷ []) ∷ (3 ∷ []) ∷ []) ∷ [] ∷ []) ≡ true ∷ false ∷ false ∷ true ∷ []
-unfolding widthOf upToBad isGrid
+unfolding widthOf areIndices isGrid
 grids-hold = refl

@@ -5,17 +5,16 @@ use mathlib.Core.List.{List, [], _∷_, _++_, map}
 use Prim.Native.Nat.{ℕ, suc, _+_, _-_, _*_, _≤_, _<_}
 use native.Mathlib.Decide.{decLt}
 use native.Mathlib.Nat.{zero-mul, mul-le-mul-right, suc-mul}
-use native.Mathlib.Numerals.{add-one}
 use native.Mathlib.Omega.{arith}
 use borrow.Author.Tests.{eqb-true, eq-eqb, ne-eqb, le-leb, lt-leb}
 use lib.Dec.{eqb, leb}
-use lib.ListN.{length, getD, take, drop, set, length-set, length-append, length-take, length-drop, drop-of-length-le}
-use lib.Seq.{drop-drop, take-all}
+use lib.ListN.{length, getD, take, drop, length-append, length-take, length-drop, drop-of-length-le}
+use lib.Seq.{drop-drop}
 use Rattle.leaves.specs.Put.{put}
-use Rattle.leaves.proofs.Puts.{put-nil, put-cons, put-append}
-use Rattle.arguments.specs.Words.{upTo, pieces, itemsOf, alike}
+use Rattle.leaves.proofs.Puts.{put-append}
+use Rattle.arguments.specs.Words.{upTo, itemsOf, alike}
 use Rattle.arguments.proofs.Pieces.{split, items-more, items-last, pieces-at, pieces-end, unlike-length}
-use Rattle.sheets.specs.Sheets.{isSeparator, separatorOf, withoutMark, linesOf, withoutReturn, afterBlanks, indexOf, rowOf, rowsOf, widthOf, upToBad, isGrid, cellsOf}
+use Rattle.sheets.specs.Sheets.{isSeparator, separatorOf, linesOf, withoutReturn, afterBlanks, indexOf, rowOf, rowsOf, widthOf, areIndices, upToBad, isGrid, cellsOf}
 
 -- ---- separators, blanks and line ends
 
@@ -119,6 +118,25 @@ all-good most (v ∷ vs) e = go (leb v most) e (all-good most vs)
     go true q f = ap (λ (l : List ℕ). v ∷ l) (f (omega arith))
     go false q f = let z : ⊥ = omega arith in absurd z
 
+-- a row is of indices exactly where none is left out
+indices-all : (most : ℕ) (vs : List ℕ) → length (upToBad most vs) ≡ length vs → areIndices most vs ≡ true
+unfolding areIndices upToBad
+indices-all most [] e = refl
+indices-all most (v ∷ vs) e = go (leb v most) e (indices-all most vs)
+  where
+    go : (b : Bool) → length (cond b (v ∷ upToBad most vs) []) ≡ suc (length vs) → (length (upToBad most vs) ≡ length vs → areIndices most vs ≡ true) → (b && areIndices most vs) ≡ true
+    go true q f = f (omega arith)
+    go false q f = let z : ⊥ = omega arith in absurd z
+
+indices-not : (most : ℕ) (vs : List ℕ) → (length (upToBad most vs) ≡ length vs → ⊥) → areIndices most vs ≡ false
+unfolding areIndices upToBad
+indices-not most [] n = absurd (n refl)
+indices-not most (v ∷ vs) n = go (leb v most) n (indices-not most vs)
+  where
+    go : (b : Bool) → (length (cond b (v ∷ upToBad most vs) []) ≡ suc (length vs) → ⊥) → ((length (upToBad most vs) ≡ length vs → ⊥) → areIndices most vs ≡ false) → (b && areIndices most vs) ≡ false
+    go true q f = f (λ e. q (ap suc e))
+    go false q f = refl
+
 -- ---- rows
 
 pub length-map : {A B : Type 0} (f : A → B) (xs : List A) → length (map f xs) ≡ length xs
@@ -148,11 +166,11 @@ module _ (most width : ℕ) (row : List ℕ) (rows : List (List ℕ)) where
   module _ (long : length row ≡ width) where
     pub bad-row : (length (upToBad most row) ≡ width → ⊥) → isGrid most width (row ∷ rows) ≡ false
     unfolding isGrid
-    bad-row n = rw (eq-eqb (length row) width long, ne-eqb (length (upToBad most row)) width n)
+    bad-row n = rw (eq-eqb (length row) width long, indices-not most row (λ e. n (e ∙ long)))
 
     pub good-row : length (upToBad most row) ≡ width → isGrid most width (row ∷ rows) ≡ isGrid most width rows
     unfolding isGrid
-    good-row e = rw (eq-eqb (length row) width long, eq-eqb (length (upToBad most row)) width e)
+    good-row e = rw (eq-eqb (length row) width long, indices-all most row (e ∙ sym long))
 
 -- a row put, and the rows behind it
 pub put-row : (was : List ℕ) (at : ℕ) (row : List ℕ) (rows : List (List ℕ)) → at + length row ≤ length was
@@ -184,7 +202,7 @@ too-many room done rows whole width e h k l = omega (arith, mul-le-mul-right wid
 pub grid-cells : (most width : ℕ) (rows : List (List ℕ)) → isGrid most width rows ≡ true → length (cellsOf rows) ≡ length rows * width
 unfolding isGrid cellsOf
 grid-cells most width [] e = sym (zero-mul width)
-grid-cells most width (row ∷ rows) e = go (eqb (length row) width) refl (eqb (length (upToBad most row)) width) e (grid-cells most width rows)
+grid-cells most width (row ∷ rows) e = go (eqb (length row) width) refl (areIndices most row) e (grid-cells most width rows)
   where
     go : (a : Bool) → eqb (length row) width ≡ a → (b : Bool) → (a && (b && isGrid most width rows)) ≡ true → (isGrid most width rows ≡ true → length (cellsOf rows) ≡ length rows * width)
         → length (row ++ cellsOf rows) ≡ suc (length rows) * width

@@ -1,4 +1,4 @@
--- What a sheet of indices holds: rows of numbers, as a spreadsheet writes them out.
+-- What a sheet of indices holds: rows of numbers, as a spreadsheet writes them out (docs/DECISIONS.md, "The programs").
 use mathlib.Core.Bool.{Bool, true, false, cond, _&&_, _||_}
 use mathlib.Core.Path.{_≡_}
 use mathlib.Core.List.{List, [], _∷_, _++_, map}
@@ -54,15 +54,15 @@ unfoldable pub widthOf : List (List ℕ) → ℕ
 widthOf [] = 0
 widthOf (row ∷ rows) = length row
 
--- all of a row's cells up to the first that is over the largest index
-unfoldable pub upToBad : ℕ → List ℕ → List ℕ
-upToBad most [] = []
-upToBad most (v ∷ vs) = cond (leb v most) (v ∷ upToBad most vs) []
+-- whether all of a row's cells are indices up to the largest
+unfoldable pub areIndices : ℕ → List ℕ → Bool
+areIndices most [] = true
+areIndices most (v ∷ vs) = leb v most && areIndices most vs
 
--- whether rows are a grid: all of one width, and no cell over the largest index
+-- whether rows are a grid: all of one width, and every cell an index
 unfoldable pub isGrid : ℕ → ℕ → List (List ℕ) → Bool
 isGrid most width [] = true
-isGrid most width (row ∷ rows) = eqb (length row) width && (eqb (length (upToBad most row)) width && isGrid most width rows)
+isGrid most width (row ∷ rows) = eqb (length row) width && (areIndices most row && isGrid most width rows)
 
 -- the cells row by row
 unfoldable pub cellsOf : List (List ℕ) → List ℕ
@@ -77,3 +77,8 @@ SheetRead (Rows width height cells) most rows was later =
 SheetRead (NotAnIndex row column from to) most rows was later = isGrid most (widthOf rows) rows ≡ false
 SheetRead (Ragged row cells width) most rows was later = isGrid most (widthOf rows) rows ≡ false
 SheetRead NoRoom most rows was later = length was < length rows * widthOf rows
+
+-- a row's cells up to the first that is no index: what the code has read of a row
+unfoldable pub upToBad : ℕ → List ℕ → List ℕ
+upToBad most [] = []
+upToBad most (v ∷ vs) = cond (leb v most) (v ∷ upToBad most vs) []

@@ -7,7 +7,7 @@ ghost use lib.Dec.{leb};
 ghost use lib.ListN.{length, take, drop};
 ghost use Rattle.leaves.specs.Put.{put};
 ghost use Rattle.arguments.specs.Words.{itemsOf, itemAt};
-ghost use Rattle.sheets.specs.Sheets.{separatorOf, withoutMark, withoutReturn, afterBlanks, indexOf, rowOf, rowsOf, sheetRows, widthOf, upToBad, isSeparator, SheetRead};
+ghost use Rattle.sheets.specs.Sheets.{separatorOf, withoutMark, withoutReturn, afterBlanks, indexOf, rowsOf, sheetRows, widthOf, upToBad, isSeparator, SheetRead};
 use arguments::numbers::number;
 use arguments::words::either;
 use arguments::words::end_of;

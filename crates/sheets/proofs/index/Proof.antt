@@ -1,6 +1,5 @@
 use mathlib.Core.Path.{ap, _∙_}
 use native.Mathlib.Omega.{arith}
-use lib.ListN.{drop}
 use Rattle.arguments.specs.Numbers.{numberOf}
 use Rattle.arguments.proofs.Pieces.{part-rest}
 use Rattle.sheets.specs.Sheets.{indexOf}

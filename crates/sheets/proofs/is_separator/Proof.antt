@@ -1,5 +1,5 @@
 use mathlib.Core.Bool.{Bool, _||_}
-use mathlib.Core.Path.{_∙_, _≡_}
+use mathlib.Core.Path.{_≡_}
 use Prim.Native.Nat.{ℕ}
 use native.Mathlib.Omega.{arith}
 use lib.Dec.{eqb}

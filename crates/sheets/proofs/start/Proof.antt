@@ -1,11 +1,11 @@
 use mathlib.Core.Bool.{true, false}
 use mathlib.Core.List.{List, [], _∷_}
 use mathlib.Core.Path.{refl, sym, ap, _∙_, _≡_}
-use Prim.Native.Nat.{ℕ, _≤_}
+use Prim.Native.Nat.{ℕ}
 use native.Mathlib.Omega.{arith}
-use lib.ListN.{length, take, drop}
+use lib.ListN.{take, drop}
 use Rattle.arguments.specs.Words.{alike}
-use Rattle.arguments.proofs.Pieces.{alike-start, partOf}
+use Rattle.arguments.proofs.Pieces.{alike-start}
 use Rattle.sheets.specs.Sheets.{withoutMark}
 use Rattle.sheets.proofs.SheetLaws.{long-enough}
 use Rattle.sheets.proofs.start.Statement.{statement}

@@ -1,10 +1,10 @@
 use mathlib.Core.List.{List}
-use mathlib.Core.Path.{sym, ap, _∙_, _≡_}
-use Prim.Native.Nat.{ℕ, _-_, _≤_, _<_}
+use mathlib.Core.Path.{_∙_, _≡_}
+use Prim.Native.Nat.{ℕ, _-_, _≤_}
 use native.Mathlib.Nat.{sub-zero}
 use native.Mathlib.Omega.{arith}
 use borrow.Author.Tests.{eq-eqb, ne-eqb, le-leb}
-use lib.ListN.{length, getD, take, drop, List·getD-eq-default}
+use lib.ListN.{length, getD, List·getD-eq-default}
 use Rattle.arguments.proofs.Pieces.{partOf}
 use Rattle.sheets.specs.Sheets.{withoutReturn}
 use Rattle.sheets.proofs.without_return.Statement.{statement}

@@ -5,7 +5,7 @@ use Prim.Native.Nat.{ℕ, _+_, _≤_, _<_}
 use native.Mathlib.Omega.{arith}
 use lib.Dec.{ltb}
 use lib.ListN.{drop, length}
-use Rattle.arguments.specs.Options.{optionNamed, standsAlone, carriesValue, carried, first, second, isNone, faultOf, faultAlone, faultLast, faultAt}
+use Rattle.arguments.specs.Options.{optionNamed, standsAlone, carriesValue, carried, first, faultOf, faultAlone, faultLast, faultAt}
 use Rattle.arguments.specs.Words.{upTo, wordsOf}
 use Rattle.arguments.proofs.OptionLaws.{second-word, followed, none-behind, some-behind}
 use Rattle.arguments.proofs.Pieces.{first-word}

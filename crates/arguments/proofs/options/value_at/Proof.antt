@@ -1,11 +1,11 @@
-use mathlib.Core.Bool.{Bool, true, false, cond}
+use mathlib.Core.Bool.{true, false}
 use mathlib.Core.List.{List, []}
 use mathlib.Core.Path.{sym, ap, _∙_, _≡_}
-use Prim.Native.Nat.{ℕ, _+_, _≤_}
+use Prim.Native.Nat.{ℕ, _+_}
 use native.Mathlib.Omega.{arith}
 use lib.ListN.{length, drop}
 use Rattle.arguments.specs.Options.{carriesValue, carried, first, valueIn}
-use Rattle.arguments.specs.Words.{upTo, itemAt, wordsOf}
+use Rattle.arguments.specs.Words.{upTo, wordsOf}
 use Rattle.arguments.proofs.OptionLaws.{second-word}
 use Rattle.arguments.proofs.Pieces.{first-word, up-end}
 use Rattle.arguments.proofs.options.value_at.Statement.{statement}

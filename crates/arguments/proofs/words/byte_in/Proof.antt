@@ -1,5 +1,5 @@
 use mathlib.Core.Bool.{Bool, true, false}
-use mathlib.Core.Path.{refl, _≡_}
+use mathlib.Core.Path.{_≡_}
 use Prim.Native.Nat.{ℕ, _+_, _≤_, _<_}
 use native.Mathlib.Omega.{arith}
 use borrow.Author.Tests.{le-leb, lt-leb, not-true, not-false}

@@ -1,5 +1,5 @@
 use mathlib.Core.Bool.{Bool, true, false}
-use mathlib.Core.Path.{sym, _≡_}
+use mathlib.Core.Path.{_≡_}
 use Prim.Native.Nat.{ℕ}
 use borrow.Author.Tests.{eq-eqb, ne-eqb}
 use Rattle.command.specs.Commands.{firstFound}

@@ -1,14 +1,9 @@
-use mathlib.Core.List.{List}
-use mathlib.Core.Path.{sym, ap, subst, _∙_, _≡_}
-use Prim.Native.Nat.{ℕ}
+use mathlib.Core.Path.{subst}
 use native.Mathlib.Omega.{arith}
 use borrow.Author.Needs.{needs}
 use lib.ListN.{length}
 use Rattle.leaves.specs.declared.options.EncodeOptions.{EncodeOptions}
-use Rattle.format.specs.Input.{Input}
-use Rattle.planner.specs.Answers.{Written, Sized}
 use Rattle.planner.specs.Calls.{called}
-use Rattle.arguments.specs.Options.{optionsAsked}
 use Rattle.arguments.specs.Words.{wordsOf}
 use Rattle.command.specs.Runs.{Encodes}
 use Rattle.command.proofs.RunLaws.{is-flag, too-long, writes}

@@ -1,8 +1,8 @@
-use mathlib.Core.List.{List, [], _∷_, _++_}
-use mathlib.Core.Path.{refl, sym, ap, _∙_, _≡_}
-use Prim.Native.Nat.{ℕ, suc, _+_, _-_, _/_, _%_, _≤_, _<_}
+use mathlib.Core.List.{[], _++_}
+use mathlib.Core.Path.{refl, _∙_, _≡_}
+use Prim.Native.Nat.{_+_, _-_, _≤_}
 use native.Mathlib.Omega.{arith}
-use lib.ListN.{length, set, drop, length-set}
+use lib.ListN.{length, drop, length-set}
 use Rattle.messages.specs.Messages.{decimalIn, decimal}
 use Rattle.messages.proofs.MessageLaws.{append-nil, digit-last, digit-more, none-left}
 use Rattle.messages.proofs.message.in_decimal.Statement.{statement}

@@ -1,6 +1,5 @@
 use mathlib.Core.Path.{sym}
 use native.Mathlib.Omega.{arith}
-use lib.ListN.{length, take, length-take}
 use lib.Seq.{length-take-le}
 use Rattle.messages.proofs.MessageLaws.{says-piece, says-length}
 use Rattle.messages.proofs.message.say.Statement.{statement}

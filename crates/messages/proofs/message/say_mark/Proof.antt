@@ -2,8 +2,8 @@ use mathlib.Core.Path.{refl, _∙_}
 use Prim.Native.Nat.{_+_}
 use native.Mathlib.Omega.{arith}
 use borrow.Author.Needs.{needs}
-use lib.ListN.{length, getD}
-use Rattle.messages.proofs.MessageLaws.{says-as, says-length, first-mark, second-mark, third-mark, fourth-mark, no-mark, one-byte}
+use lib.ListN.{getD}
+use Rattle.messages.proofs.MessageLaws.{says-as, first-mark, second-mark, third-mark, fourth-mark, no-mark, one-byte}
 use Rattle.messages.proofs.message.say_mark.Statement.{statement}
 use Rattle.messages.proofs.message.say_mark.Tie as tie
 
