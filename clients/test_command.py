@@ -3,6 +3,7 @@
 Standard error is a datagram socket in most tests, so that every write of the program is one item of `err`."""
 import os
 import random
+import re
 import resource
 import shutil
 import signal
@@ -27,21 +28,15 @@ OPTIONS = """--plane --csv --width --height --stride --format --palette --sample
 FORMATS = "Rgba Rgb24 Bgra Bgr24 Rgb555 Rgb565 Pal8 Indexed4 Indexed2 Indexed1".split()
 MOST = {"Pal8": 255, "Indexed4": 15, "Indexed2": 3, "Indexed1": 1}
 
-REFUSALS = {
-    1: "width or height is 0",
-    2: "width or height is over 2147483647",
-    3: "an indexed format needs a palette",
-    4: "the palette's bytes are not a multiple of 4",
-    5: "more than one of masks, calibrated colour and a profile",
-    6: "the masks' depth is neither 16 nor 32",
-    7: "a mask has a bit above the depth",
-    8: "a mask's ones are not one run",
-    9: "a mask shares a bit with an earlier one",
-    10: "the masks of red, green and blue are all 0",
-    11: "masks are for Rgba, Rgb24, Bgra and Bgr24 alone",
-    12: "the plane is shorter than stride times height",
-    13: "the stride is below width times the bytes of a pixel",
-}
+def header_texts():
+    """The texts of bmp_refusal_text by number, out of the header: every client has the same."""
+    with open(os.path.join(HERE, "c/bmp_writer.h"), encoding="utf-8") as file:
+        header = file.read()
+    numbers = dict(re.findall(r"^    (BMP_\w+) = (\d+)", header, re.MULTILINE))
+    return {int(numbers[name]): text for name, text in re.findall(r'case (BMP_\w+): return "(.*)";', header)}
+
+
+REFUSALS = header_texts()
 
 # Five cells of index 7, with an empty palette and a minimal table.
 FIVE = bytes.fromhex("424D3E00000000000000" "3A000000" "28000000" "0500000001000000" "01000800" "01000000" "00000000"

@@ -10,7 +10,7 @@ use borrow.Author.Tests.{eq-eqb, ne-eqb, eqb-true, eqb-false, le-leb, leb-false}
 use lib.Dec.{eqb, leb}
 use lib.ListN.{length, getD, take, drop, drop-of-length-le, length-drop}
 use lib.Seq.{drop-cons, drop-drop, take-all}
-use Rattle.arguments.specs.Words.{upTo, onto, pieces, wordsOf, itemsOf, itemAt, alike, byteIn, inCase, placeAmong}
+use Rattle.arguments.specs.Words.{partOf, upTo, onto, pieces, wordsOf, itemsOf, itemAt, alike, byteIn, inCase, placeAmong}
 
 -- one number more that it is not
 pub above : (k n : ℕ) → k ≤ n → (n ≡ k → ⊥) → k + 1 ≤ n
@@ -236,10 +236,6 @@ byte-case true (x ∷ xs) zero h = refl
 byte-case true (x ∷ xs) (suc i) h = byte-case true xs i (le-of-suc-le-suc h)
 
 -- ---- parts of a text
-
--- what `part` returns
-abbrev pub partOf : List ℕ → ℕ → ℕ → List ℕ
-partOf text from to = cond (leb from to && leb to (length text)) (take (to - from) (drop from text)) []
 
 pub part-up : (mark : ℕ) (text : List ℕ) (at to : ℕ) (part : List ℕ) → part ≡ partOf text at to → to ≡ at + length (upTo mark (drop at text)) → to ≤ length text
     → part ≡ upTo mark (drop at text)

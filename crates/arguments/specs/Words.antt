@@ -1,9 +1,13 @@
 -- What a text is cut into: a command's words, the items of a list.
 use mathlib.Core.Bool.{Bool, true, false, cond, _&&_}
 use mathlib.Core.List.{List, [], _∷_, map}
-use Prim.Native.Nat.{ℕ, suc, _+_}
+use Prim.Native.Nat.{ℕ, suc, _+_, _-_}
 use lib.Dec.{eqb, leb}
-use lib.ListN.{getD}
+use lib.ListN.{length, getD, take, drop}
+
+-- the bytes from one place to another; none where that is no part
+abbrev pub partOf : List ℕ → ℕ → ℕ → List ℕ
+partOf text from to = cond (leb from to && leb to (length text)) (take (to - from) (drop from text)) []
 
 -- the bytes before the first mark
 unfoldable pub upTo : ℕ → List ℕ → List ℕ

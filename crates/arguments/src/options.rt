@@ -51,7 +51,7 @@ pub const VERSION: usize = 8;
 
 const END_OF_OPTIONS: usize = 9;
 
-pub const FORMAT: usize = 10;
+const FORMAT: usize = 10;
 
 pub const WIDTH: usize = 11;
 

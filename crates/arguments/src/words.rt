@@ -3,13 +3,13 @@ ghost use mathlib.Core.Path.{_≡_};
 ghost use mathlib.Core.Bool.{cond, _&&_, _||_};
 ghost use mathlib.Core.List.{[]};
 ghost use Prim.Native.Nat.{_+_, _-_, _≤_};
-ghost use lib.Dec.{eqb, leb};
-ghost use lib.ListN.{length, take, drop};
-ghost use Rattle.arguments.specs.Words.{upTo, itemsOf, itemAt, alike, byteIn, inCase, placeAmong};
+ghost use lib.Dec.{eqb};
+ghost use lib.ListN.{length, drop};
+ghost use Rattle.arguments.specs.Words.{partOf, upTo, itemsOf, itemAt, alike, byteIn, inCase, placeAmong};
 
 // The bytes of a slice from one place to another; none where that is no part of it.
 pub fn part<'a>(bytes: &'a [u8], from: usize, to: usize) -> &'a [u8]
-    ensures { λ r. ⌜ now r ≡ cond (leb from to && leb to (length (now (bytes .entry)))) (take (to - from) (drop from (now (bytes .entry)))) [] ⌝ }
+    ensures { λ r. ⌜ now r ≡ partOf (now (bytes .entry)) from to ⌝ }
 {
     if from <= to && to <= bytes.len() {
         return &bytes[from..to];

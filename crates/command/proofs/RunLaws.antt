@@ -23,8 +23,8 @@ use Rattle.planner.specs.declared.encoder.Encoded.{Encoded}
 use Rattle.planner.specs.declared.encoder.Encoded.the-variants as encoded
 use Rattle.planner.specs.declared.plan.SizeBound.{SizeBound}
 use Rattle.arguments.specs.Options.{optionNames, optionNamed, isNone, isGiven, valueOf, firstFault, formatAsked, sourceAsked, optionsAsked}
-use Rattle.arguments.specs.Words.{upTo, placeAmong, alike, itemAt}
-use Rattle.arguments.proofs.Pieces.{partOf, part-rest}
+use Rattle.arguments.specs.Words.{partOf, upTo, placeAmong, alike, itemAt}
+use Rattle.arguments.proofs.Pieces.{part-rest}
 use Rattle.messages.specs.Checksum.{cksum}
 use Rattle.messages.specs.Messages.{decimal, filled, Says}
 use Rattle.sheets.specs.Sheets.{sheetRows, widthOf, isGrid, cellsOf, SheetRead}

@@ -180,7 +180,7 @@ abbrev pub Runs : Bool → List (List ℕ) → List ℕ → List ℕ → List �
 Runs true ws plane palette icc linked cells was later textWas textLater answer = SheetRun ws plane palette icc linked cells was later textWas textLater answer
 Runs false ws plane palette icc linked cells was later textWas textLater answer = Encodes ws (planeInput ws plane palette icc linked) was later textWas textLater answer
 
--- the promise of the command
+-- the promise of the command; what the memory for a sheet's cells holds later is free
 abbrev pub Ran : List (List ℕ) → List ℕ → List ℕ → List ℕ → List ℕ → List ℕ → List ℕ → List ℕ → List ℕ → List ℕ → CommandAnswer → Type 0
 Ran ws plane palette icc linked cells was later textWas textLater answer =
     NotRun ws was later textWas textLater answer

@@ -45,7 +45,8 @@ pub extern "C" fn bmp_command_file(words: &[u8], file: u32, name: &mut [u8]) -> 
     tell(name, b"@", file_name(words, file), b"", b"", b"") as u64
 }
 
-// Runs the command on files in memory: `plane` is the plane or the sheet, `cells` memory for the sheet's cells.
+// Runs the command on files in memory: `plane` is the plane or the sheet, `cells` memory for the sheet's cells, whose
+// later contents are free.
 #[no_mangle]
 pub extern "C" fn bmp_command<'a>(
     words: &[u8],

@@ -33,6 +33,7 @@ use arguments::options::value_of;
 use arguments::words::both;
 use arguments::words::item;
 use arguments::words::part;
+use leaves::checks::below_product;
 use leaves::encoder::EncodeSource;
 use leaves::encoder::EncodedBmpFormat;
 use leaves::encoder::written_names;
@@ -51,34 +52,6 @@ use sheets::cell_text;
 use sheets::read_sheet;
 
 // ---- messages
-
-// The largest index of an indexed layout.
-fn most_index(format: BmpPixelFormat) -> u8
-    ensures { λ r. ⌜ r ≡ mostIndex format ⌝ }
-{
-    match format {
-        BmpPixelFormat::Pal8 => 255,
-        BmpPixelFormat::Indexed4 => 15,
-        BmpPixelFormat::Indexed2 => 3,
-        BmpPixelFormat::Indexed1 => 1,
-        BmpPixelFormat::Rgba => 0,
-        BmpPixelFormat::Rgb24 => 0,
-        BmpPixelFormat::Bgra => 0,
-        BmpPixelFormat::Bgr24 => 0,
-        BmpPixelFormat::Rgb555 => 0,
-        BmpPixelFormat::Rgb565 => 0,
-    }
-}
-
-// The first n bytes, or all.
-fn head_of<'a>(bytes: &'a [u8], n: usize) -> &'a [u8]
-    ensures { λ r. ⌜ now r ≡ take n (now (bytes .entry)) ⌝ }
-{
-    if n < bytes.len() {
-        return part(bytes, 0, n);
-    }
-    bytes
-}
 
 fn tell_too_long(bytes: usize, stride: usize, height: u32, text: &mut [u8]) -> usize
     ensures { λ r. ⌜ Says (now (text .entry)) 0 (filled (decimal bytes) (decimal stride) (decimal height) [] tooLongLine) (now (text .exit)) r ⌝ }
@@ -212,17 +185,24 @@ fn tell_ragged(name: &[u8], row: usize, count: usize, width: usize, text: &mut [
 
 // ---- a picture
 
-// Whether there are more bytes than the rows take, with no product that could wrap.
+// The first n bytes, or all.
+fn head_of<'a>(bytes: &'a [u8], n: usize) -> &'a [u8]
+    ensures { λ r. ⌜ now r ≡ take n (now (bytes .entry)) ⌝ }
+{
+    if n < bytes.len() {
+        return part(bytes, 0, n);
+    }
+    bytes
+}
+
+// Whether there are more bytes than the rows take.
 fn is_longer(bytes: usize, stride: usize, height: u32) -> bool
     ensures { λ r. ⌜ r ≡ ltb (stride * height) bytes ⌝ }
 {
     if bytes == 0 {
         return false;
     }
-    if height == 0 {
-        return true;
-    }
-    stride <= (bytes - 1) / height as usize
+    !below_product(bytes - 1, stride, height as usize)
 }
 
 // Where the size query passes, whether a plane is too long, unless more may follow.
@@ -304,6 +284,25 @@ fn encode<'a>(
 
 // ---- a sheet
 
+// The largest index of an indexed layout.
+fn most_index(format: BmpPixelFormat) -> u8
+    ensures { λ r. ⌜ r ≡ mostIndex format ⌝ }
+{
+    match format {
+        BmpPixelFormat::Pal8 => 255,
+        BmpPixelFormat::Indexed4 => 15,
+        BmpPixelFormat::Indexed2 => 3,
+        BmpPixelFormat::Indexed1 => 1,
+        BmpPixelFormat::Rgba => 0,
+        BmpPixelFormat::Rgb24 => 0,
+        BmpPixelFormat::Bgra => 0,
+        BmpPixelFormat::Bgr24 => 0,
+        BmpPixelFormat::Rgb555 => 0,
+        BmpPixelFormat::Rgb565 => 0,
+    }
+}
+
+// A size that 32 bits do not hold becomes the largest that they do, which the table refuses as too large.
 fn at_most_32_bits(n: usize) -> u32
     ensures { λ r. ⌜ r ≡ min n 0xFFFFFFFF ⌝ }
 {

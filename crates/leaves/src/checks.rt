@@ -60,7 +60,7 @@ pub fn check_modes(bitfields: bool, calibrated_rgb: bool, profile: bool) -> Chec
 }
 
 // Whether n is below a × b, with no product that could wrap.
-fn below_product(n: usize, a: usize, b: usize) -> bool
+pub fn below_product(n: usize, a: usize, b: usize) -> bool
     ensures { λ r. ⌜ r ≡ ltb n (a * b) ⌝ }
 {
     if b == 0 {

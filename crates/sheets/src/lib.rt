@@ -2,11 +2,9 @@
 ghost use mathlib.Core.Path.{_≡_};
 ghost use mathlib.Core.List.{[], map};
 ghost use Prim.Native.Nat.{_+_, _-_, _≤_};
-ghost use mathlib.Core.Bool.{cond, _&&_};
-ghost use lib.Dec.{leb};
-ghost use lib.ListN.{length, take, drop};
+ghost use lib.ListN.{length, drop};
 ghost use Rattle.leaves.specs.Put.{put};
-ghost use Rattle.arguments.specs.Words.{itemsOf, itemAt};
+ghost use Rattle.arguments.specs.Words.{partOf, itemsOf, itemAt};
 ghost use Rattle.sheets.specs.Sheets.{separatorOf, withoutMark, withoutReturn, afterBlanks, indexOf, rowsOf, sheetRows, widthOf, upToBad, isSeparator, SheetRead};
 use arguments::numbers::number;
 use arguments::words::either;
@@ -56,6 +54,7 @@ fn start(text: &[u8]) -> usize
     0
 }
 
+// A line without the CR of a CR LF.
 fn without_return<'a>(line: &'a [u8]) -> &'a [u8]
     ensures { λ r. ⌜ now r ≡ withoutReturn (now (line .entry)) ⌝ }
 {
@@ -70,6 +69,7 @@ fn without_return<'a>(line: &'a [u8]) -> &'a [u8]
     line
 }
 
+// Where a number starts: people write blanks behind a comma.
 fn after_blanks(cell: &[u8]) -> usize
     ensures { λ r. ⌜ drop r (now (cell .entry)) ≡ afterBlanks (now (cell .entry)) ⌝ }
 {
@@ -159,7 +159,7 @@ pub fn read_sheet(text: &[u8], most: u8, cells: &mut [u8]) -> Sheet
 
 // What stands in a cell of a row, by where the row's line starts and ends.
 pub fn cell_text<'a>(text: &'a [u8], from: usize, to: usize, column: usize) -> &'a [u8]
-    ensures { λ r. ⌜ now r ≡ itemAt (itemsOf (separatorOf (now (text .entry))) (withoutReturn (cond (leb from to && leb to (length (now (text .entry)))) (take (to - from) (drop from (now (text .entry)))) []))) column ⌝ }
+    ensures { λ r. ⌜ now r ≡ itemAt (itemsOf (separatorOf (now (text .entry))) (withoutReturn (partOf (now (text .entry)) from to))) column ⌝ }
 {
     item(
         without_return(part(text, from, to)),

@@ -5,7 +5,7 @@ use native.Mathlib.Nat.{sub-zero}
 use native.Mathlib.Omega.{arith}
 use borrow.Author.Tests.{eq-eqb, ne-eqb, le-leb}
 use lib.ListN.{length, getD, List·getD-eq-default}
-use Rattle.arguments.proofs.Pieces.{partOf}
+use Rattle.arguments.specs.Words.{partOf}
 use Rattle.sheets.specs.Sheets.{withoutReturn}
 use Rattle.sheets.proofs.without_return.Statement.{statement}
 use Rattle.sheets.proofs.without_return.Tie as tie

@@ -6,9 +6,9 @@ use Prim.Native.Nat.{ℕ}
 use native.Mathlib.Omega.{arith}
 use lib.ListN.{take, drop}
 use Rattle.arguments.specs.Numbers.{digitsOf, numberOf}
-use Rattle.arguments.specs.Words.{alike}
+use Rattle.arguments.specs.Words.{partOf, alike}
 use Rattle.leaves.specs.Texts.{bytesOf}
-use Rattle.arguments.proofs.Pieces.{partOf, part-rest, alike-start}
+use Rattle.arguments.proofs.Pieces.{part-rest, alike-start}
 use Rattle.arguments.proofs.numbers.number.Statement.{statement}
 use Rattle.arguments.proofs.numbers.number.Tie as tie
 

@@ -6,7 +6,7 @@ use native.Mathlib.Omega.{arith}
 use borrow.Author.Tests.{le-leb}
 use lib.ListN.{length, take}
 use lib.Seq.{take-all}
-use Rattle.arguments.proofs.Pieces.{partOf}
+use Rattle.arguments.specs.Words.{partOf}
 use Rattle.command.proofs.run.head_of.Statement.{statement}
 use Rattle.command.proofs.run.head_of.Tie as tie
 
