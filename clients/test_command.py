@@ -28,6 +28,7 @@ OPTIONS = """--plane --csv --width --height --stride --format --palette --sample
 FORMATS = "Rgba Rgb24 Bgra Bgr24 Rgb555 Rgb565 Pal8 Indexed4 Indexed2 Indexed1".split()
 MOST = {"Pal8": 255, "Indexed4": 15, "Indexed2": 3, "Indexed1": 1}
 
+
 def header_texts():
     """The texts of bmp_refusal_text by number, out of the header: every client has the same."""
     with open(os.path.join(HERE, "c/bmp_writer.h"), encoding="utf-8") as file:
@@ -315,6 +316,14 @@ class Words(Case):
                 self.write("out.bmp", b"an older file")
                 self.unchanged(1, f"refused, {number}: {REFUSALS[number]}", *words)
                 os.remove(self.path("out.bmp"))
+
+    def test_the_causes_are_the_headers(self):
+        """Some refusals need planes of gigabytes; their texts are held to the header in the command's definition."""
+        with open(os.path.join(HERE, "../crates/command/specs/Runs.antt"), encoding="utf-8") as file:
+            listed = re.search(r"^causes =\n(.*?)\[\]\)", file.read(), re.MULTILINE | re.DOTALL).group(1)
+        causes = dict(enumerate(re.findall(r'"(.*)"', listed)))
+        self.assertEqual({number: causes[number] for number in range(1, 17)}, {number: REFUSALS[number] for number in range(1, 17)})
+        self.assertEqual(sorted(REFUSALS), list(range(17)) + [255])
 
     def test_a_shell_sees_a_refusal(self):
         for words, status, printed in (("", 1, b""), ("--palette palette", 0, b"yes\n"), ("--palette none", 2, b"")):
