@@ -12,7 +12,7 @@ use lib.ListN.{length, drop}
 use lib.Pow.{pow-mono}
 use Rattle.leaves.specs.Masks.{bitfieldsRows}
 use Rattle.leaves.specs.Refusals.{firstNumber}
-use Rattle.leaves.specs.Sizes.{rowStride}
+use Rattle.leaves.specs.Sizes.{hasTable, rowStride}
 use Rattle.format.specs.Readers.{Fields, fieldsOf, wordAt, topFirst, shownHeight, tableCount, rowLength}
 use Rattle.format.proofs.Passing.{or-false, and-false}
 use Rattle.format.proofs.PlainCells.{length-row}
@@ -59,12 +59,9 @@ mask-depths c d e m =
 
 -- ---- depth and compression
 
-abbrev pub writtenDepth : ℕ → Bool
-writtenDepth d = eqb d 1 || eqb d 2 || eqb d 4 || eqb d 8 || eqb d 16 || eqb d 24 || eqb d 32
-
--- what holds at each depth that is written
-pub depth-cases {ℓ} : (P : ℕ → Type ℓ) → P 1 → P 2 → P 4 → P 8 → P 16 → P 24 → P 32 → (d : ℕ) → writtenDepth d ≡ true → P d
-depth-cases P p1 p2 p4 p8 p16 p24 p32 d e = seven (or-true _ _ e)
+-- what holds at each depth with a colour table
+pub table-cases {ℓ} : (P : ℕ → Type ℓ) → P 1 → P 2 → P 4 → P 8 → (d : ℕ) → hasTable d ≡ true → P d
+table-cases P p1 p2 p4 p8 d e = four (or-true _ _ e)
   where
     is : (k : ℕ) → P k → eqb d k ≡ true → P d
     is k p q = subst P (sym (eqb-true d k q)) p
@@ -81,17 +78,27 @@ depth-cases P p1 p2 p4 p8 p16 p24 p32 d e = seven (or-true _ _ e)
     four (inl q) = three (or-true _ _ q)
     four (inr q) = is 8 p8 q
 
-    five : (eqb d 1 || eqb d 2 || eqb d 4 || eqb d 8 ≡ true) ⊎ (eqb d 16 ≡ true) → P d
-    five (inl q) = four (or-true _ _ q)
-    five (inr q) = is 16 p16 q
+abbrev pub writtenDepth : ℕ → Bool
+writtenDepth d = hasTable d || eqb d 16 || eqb d 24 || eqb d 32
 
-    six : (eqb d 1 || eqb d 2 || eqb d 4 || eqb d 8 || eqb d 16 ≡ true) ⊎ (eqb d 24 ≡ true) → P d
-    six (inl q) = five (or-true _ _ q)
-    six (inr q) = is 24 p24 q
+-- and at each depth that is written
+pub depth-cases {ℓ} : (P : ℕ → Type ℓ) → P 1 → P 2 → P 4 → P 8 → P 16 → P 24 → P 32 → (d : ℕ) → writtenDepth d ≡ true → P d
+depth-cases P p1 p2 p4 p8 p16 p24 p32 d e = three (or-true _ _ e)
+  where
+    is : (k : ℕ) → P k → eqb d k ≡ true → P d
+    is k p q = subst P (sym (eqb-true d k q)) p
 
-    seven : (eqb d 1 || eqb d 2 || eqb d 4 || eqb d 8 || eqb d 16 || eqb d 24 ≡ true) ⊎ (eqb d 32 ≡ true) → P d
-    seven (inl q) = six (or-true _ _ q)
-    seven (inr q) = is 32 p32 q
+    one : (hasTable d ≡ true) ⊎ (eqb d 16 ≡ true) → P d
+    one (inl q) = table-cases P p1 p2 p4 p8 d q
+    one (inr q) = is 16 p16 q
+
+    two : (hasTable d || eqb d 16 ≡ true) ⊎ (eqb d 24 ≡ true) → P d
+    two (inl q) = one (or-true _ _ q)
+    two (inr q) = is 24 p24 q
+
+    three : (hasTable d || eqb d 16 || eqb d 24 ≡ true) ⊎ (eqb d 32 ≡ true) → P d
+    three (inl q) = two (or-true _ _ q)
+    three (inr q) = is 32 p32 q
 
 -- the parts of 17's tests of the kind, where the fields are there
 pub record Kind (t : Fields) : Type 0 where

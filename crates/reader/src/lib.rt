@@ -1,2 +1,3 @@
+pub mod cells;
 pub mod checks;
 pub mod fields;
