@@ -83,7 +83,7 @@ index-cell d w row rest x t small h =
 -- ---- bits under a mask
 
 -- the bits under a mask of j ones from bit k on, moved down
-bits-under : (mask j k v : ℕ) → mask ≡ 2 ^ (j + k) - 2 ^ k → eqb mask 0 ≡ false → trailingZeros 32 mask ≡ k → channel mask v ≡ v / 2 ^ k % 2 ^ j
+pub bits-under : (mask j k v : ℕ) → mask ≡ 2 ^ (j + k) - 2 ^ k → eqb mask 0 ≡ false → trailingZeros 32 mask ≡ k → channel mask v ≡ v / 2 ^ k % 2 ^ j
 unfolding channel
 bits-under mask j k v e some low = rw (some, low, e, and-high v j k, shl-shr (v / 2 ^ k % 2 ^ j) k)
 

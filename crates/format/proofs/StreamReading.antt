@@ -17,15 +17,15 @@ use Rattle.format.proofs.RowReading.{row-length, row-alone}
 -- ---- two readings, one after the other
 
 -- both are read
-record Both (first : Decoded) (next : List ℕ → ℕ → Decoded) (all : List ℕ) (n : ℕ) : Type 0 where
-  cells : List ℕ
-  taken : ℕ
-  more : List ℕ
-  m : ℕ
-  earlier : first ≡ filled cells taken
-  later : next cells taken ≡ filled more m
-  together : all ≡ cells ++ more
-  bytes : n ≡ taken + m
+pub record Both (first : Decoded) (next : List ℕ → ℕ → Decoded) (all : List ℕ) (n : ℕ) : Type 0 where
+  pub cells : List ℕ
+  pub taken : ℕ
+  pub more : List ℕ
+  pub m : ℕ
+  pub earlier : first ≡ filled cells taken
+  pub later : next cells taken ≡ filled more m
+  pub together : all ≡ cells ++ more
+  pub bytes : n ≡ taken + m
 
 -- the second is refused
 record Second (first : Decoded) (next : List ℕ → ℕ → Decoded) (cause : Cause) : Type 0 where
@@ -37,7 +37,7 @@ record Second (first : Decoded) (next : List ℕ → ℕ → Decoded) (cause : C
 not-both : {cause : Cause} {cells : List ℕ} {n : ℕ} → refused cause ≡ filled cells n → ⊥
 not-both e = let z : _≡_ {A = ℕ} 0 1 = cc in omega arith
 
-both-read : (first : Decoded) (next : List ℕ → ℕ → Decoded) {all : List ℕ} {n : ℕ} → andThen first next ≡ filled all n → Both first next all n
+pub both-read : (first : Decoded) (next : List ℕ → ℕ → Decoded) {all : List ℕ} {n : ℕ} → andThen first next ≡ filled all n → Both first next all n
 both-read (refused cause) next e = absurd (not-both e)
 both-read (filled cells taken) next {all} {n} e = go (next cells taken) refl e
   where

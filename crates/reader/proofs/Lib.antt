@@ -1,3 +1,6 @@
 pub mod Heads
 pub mod Loops
 pub mod CellLaws
+pub mod Codes
+pub mod RowCodes
+pub mod Trials

@@ -2,3 +2,4 @@ pub mod Channels
 pub mod Fields
 pub mod Numbers
 pub mod Refusals
+pub mod Streams

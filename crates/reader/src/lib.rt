@@ -1,3 +1,4 @@
 pub mod cells;
 pub mod checks;
 pub mod fields;
+pub mod stream;
