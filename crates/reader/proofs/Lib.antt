@@ -4,3 +4,5 @@ pub mod CellLaws
 pub mod Codes
 pub mod RowCodes
 pub mod Trials
+pub mod PlainRows
+pub mod StreamRows

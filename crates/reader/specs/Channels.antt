@@ -6,6 +6,7 @@ use lib.Bits.{bitAnd}
 use lib.Count.{trailingZeros}
 use lib.Dec.{eqb}
 use lib.ListN.{getD}
+use Rattle.format.specs.Readers.{dwordAt}
 use Rattle.reader.specs.declared.cells.Channel.{Channel}
 use Rattle.reader.specs.declared.cells.Channels.{Channels}
 
@@ -29,3 +30,13 @@ pub record ChannelsOk (c : Channels) : Type 0 where
   pub green : c .green .shift < 32
   pub blue : c .blue .shift < 32
   pub alpha : c .alpha .shift < 32
+
+-- those of a file: at 16 bits without masks five bits each from bits 10, 5, 0; alpha for compression 6 only
+unfoldable pub channelsFor : List ℕ → ℕ → Channels
+channelsFor file c =
+    record {
+      red = channelAt (cond (eqb c 0) 0x7C00 (dwordAt file 54));
+      green = channelAt (cond (eqb c 0) 0x03E0 (dwordAt file 58));
+      blue = channelAt (cond (eqb c 0) 0x001F (dwordAt file 62));
+      alpha = channelAt (cond (eqb c 0) 0 (cond (eqb c 6) (dwordAt file 66) 0));
+    }

@@ -2,4 +2,5 @@ pub mod Channels
 pub mod Fields
 pub mod Numbers
 pub mod Refusals
+pub mod Rows
 pub mod Streams

@@ -1,4 +1,5 @@
 pub mod cells;
 pub mod checks;
 pub mod fields;
+pub mod picture;
 pub mod stream;

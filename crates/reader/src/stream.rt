@@ -176,7 +176,7 @@ fn fill_code(file: &[u8], at: usize, depth: u16, room: usize, cells: &mut [u32],
 }
 
 // Fills in a row that is not refused, and answers where its codes end.
-fn fill_row(
+pub(crate) fn fill_row(
     file: &[u8],
     start: usize,
     depth: u16,
@@ -189,7 +189,7 @@ fn fill_row(
     requires { ⌜ width < 2 ^ 31 ⌝ }
     requires { ⌜ isRefused (readRow depth width (drop start (now file))) ≡ false ⌝ }
     requires { ⌜ to + width ≤ length (now cells) ⌝ }
-    ensures { λ r. ⌜ r ≡ start + bytesIn (readRow depth width (drop start (now (file .entry)))) ⌝ }
+    ensures { λ r. ⌜ (r ≡ start + bytesIn (readRow depth width (drop start (now (file .entry))))) × (r ≤ start + 258 * width) ⌝ }
     ensures { λ _. ⌜ now (cells .exit) ≡ put (now (cells .entry)) to (cellsIn (readRow depth width (drop start (now (file .entry))))) ⌝ }
 {
     let mut at = start;

@@ -42,7 +42,7 @@ same-length : tie.Need-same-length Inv-loop μ-loop
 same-length c = c .before .loop .inv .so-far .long
 
 returns : tie.Need-returns Inv-loop μ-loop
-returns c = fill-end (c .before .loop .inv) (c .loop-test .left)
+returns c = let q = fill-end (c .before .loop .inv) (c .loop-test .left) in ((q .0, omega (arith, c .before .loop .inv .small)), q .1)
 
 pub fill-row-spec : {M : Type 1} → statement M
 fill-row-spec =

@@ -1,0 +1,23 @@
+use denote.Ref.{now}
+use lib.ListN.{length, getD, drop, set, length-set, length-drop}
+use Prim.Native.Nat.{ℕ, _+_, _-_, _*_, _/_, _%_, _^_, _≤_, _<_}
+use mathlib.Core.Path.{_≡_, refl, sym, ap, _∙_}
+use native.Mathlib.Omega.{arith}
+use borrow.Author.Needs.{needs}
+use Rattle.reader.proofs.picture.stored_at.Statement.{statement}
+use Rattle.reader.proofs.picture.stored_at.Tie as tie
+
+returns : tie.Need-returns
+returns c = (rw (c .if1 .taken), c .before .pre)
+
+sub-result : tie.Need-sub-result
+sub-result c = omega arith
+
+sub-result-2 : tie.Need-sub-result-2
+sub-result-2 c = omega arith
+
+returns-2 : tie.Need-returns-2
+returns-2 c = (rw (c .if1 .left), omega arith)
+
+pub stored-at-spec : {M : Type 1} → statement M
+stored-at-spec = tie.close (tie.spec returns sub-result sub-result-2 returns-2)
