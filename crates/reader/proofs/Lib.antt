@@ -6,3 +6,5 @@ pub mod RowCodes
 pub mod Trials
 pub mod PlainRows
 pub mod StreamRows
+pub mod Opens
+pub mod Calls

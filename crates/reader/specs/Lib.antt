@@ -1,3 +1,4 @@
+pub mod Answers
 pub mod Channels
 pub mod Fields
 pub mod Numbers
