@@ -1,10 +1,13 @@
-// The writer for callers from C: structs and numbers instead of enums. `clients/c/bmp_writer.h` declares the
+// The writer and the reader for callers from C: structs and numbers instead of enums. `clients/c/bmp_writer.h` declares the
 // same.
 ghost use mathlib.Core.Path.{_≡_};
 ghost use mathlib.Core.List.{[], _∷_};
 ghost use Rattle.leaves.specs.Masks.{bitfieldsRows};
 ghost use Rattle.leaves.specs.Refusals.{firstNumber};
+ghost use Rattle.reader.specs.Refusals.{firstApplying, openRows};
+ghost use Rattle.reader.specs.Answers.{sizesFor};
 ghost use Rattle.capi.specs.Interface.{formatAt, sourceOf, optionsOf, encodedAnswer, boundAnswer, EncodePromise, BoundPromise};
+ghost use Rattle.capi.specs.Reading.{readingAnswer, sizesAnswer, ReadPromise};
 use leaves::bitfields::BmpBitfields;
 use leaves::bitfields::validate;
 use leaves::encoder::EncodeSource;
@@ -15,6 +18,10 @@ use planner::encoder::Encoded;
 use planner::encoder::encode_into;
 use planner::plan::SizeBound;
 use planner::plan::encoded_size_bound;
+use reader::read::Reading;
+use reader::read::ReadingSizes;
+use reader::read::read;
+use reader::read::read_sizes;
 
 // 76 bytes.
 #[repr(C)]
@@ -216,4 +223,81 @@ pub extern "C" fn bmp_check_masks(bpp: u16, red: u32, green: u32, blue: u32, alp
     let masks = [red, green, blue, alpha];
     let check = validate(bpp, masks);
     check.number()
+}
+
+// 32 bytes.
+#[repr(C)]
+pub struct BmpReading {
+    // Where the profile lies in the file; both are 0 where it is empty.
+    pub profile_at: u64,
+    pub profile_bytes: u64,
+    // 0, or 17, 18, 15 or 19; then all else is 0.
+    pub refusal: u32,
+    pub width: u32,
+    pub height: u32,
+    pub depth: u32,
+}
+
+// 40 bytes.
+#[repr(C)]
+pub struct BmpReadingSizes {
+    // What the three lent buffers must have.
+    pub head_bytes: u64,
+    pub table_bytes: u64,
+    pub cell_numbers: u64,
+    // 0, 17 or 18; then all else is 0.
+    pub refusal: u32,
+    pub width: u32,
+    pub height: u32,
+    pub depth: u32,
+}
+
+fn reading_answer(r: Reading) -> BmpReading
+    ensures { λ a. ⌜ a ≡ readingAnswer r ⌝ }
+{
+    BmpReading {
+        profile_at: r.profile_at as u64,
+        profile_bytes: r.profile_bytes as u64,
+        refusal: r.refusal,
+        width: r.width,
+        height: r.height,
+        depth: r.depth,
+    }
+}
+
+fn sizes_answer(s: ReadingSizes) -> BmpReadingSizes
+    ensures { λ a. ⌜ a ≡ sizesAnswer s ⌝ }
+{
+    BmpReadingSizes {
+        head_bytes: s.head_bytes as u64,
+        table_bytes: s.table_bytes as u64,
+        cell_numbers: s.cell_numbers as u64,
+        refusal: s.refusal,
+        width: s.width,
+        height: s.height,
+        depth: s.depth,
+    }
+}
+
+// Reads a file into the lent buffers, or changes nothing and says why.
+#[no_mangle]
+pub extern "C" fn bmp_read(
+    file: &[u8],
+    head: &mut [u8],
+    table: &mut [u8],
+    cells: &mut [u32],
+) -> BmpReading
+    ensures { λ r. ⌜ ReadPromise (now (file .entry)) (now (head .entry)) (now (table .entry)) (now (cells .entry)) (now (head .exit)) (now (table .exit)) (now (cells .exit)) r ⌝ }
+{
+    let answer = read(file, head, table, cells);
+    reading_answer(answer)
+}
+
+// How long the buffers must be that `bmp_read` is lent.
+#[no_mangle]
+pub extern "C" fn bmp_read_sizes(file: &[u8]) -> BmpReadingSizes
+    ensures { λ r. ⌜ r ≡ sizesAnswer (sizesFor (firstApplying (openRows (now (file .entry)))) (now (file .entry))) ⌝ }
+{
+    let answer = read_sizes(file);
+    sizes_answer(answer)
 }
