@@ -58,11 +58,11 @@ alpha-bytes masks more e = mask-bytes masks more ∙ rw e
 
 module _ (i : Input) where
   -- what follows the masks
-  abbrev afterRest : List ℕ
+  abbrev pub afterRest : List ℕ
   afterRest = colourTable i ++ (pixels maxFile i ++ tailOf i)
 
   -- the file by its mode
-  mode-file : (m : Mode) → modeIn i ≡ m
+  pub mode-file : (m : Mode) → modeIn i ≡ m
       → fileOf maxFile i ≡ firstPart i (fileSize maxFile i) ++ (headRest m (i .source) (i .options) (length (tailOf i)) (headBytes i - 14 + rawBytes i) ++ afterRest)
   mode-file m e =
       file-parts i

@@ -222,7 +222,7 @@ passed false n k h = absurd (omega arith)
 
 module _ (i : Input) (a : Accepted i) where
   -- where there is an entry, there are no masks
-  entry-plain : (k : ℕ) → k < entriesOf i → isMasked (modeIn i) ≡ false
+  pub entry-plain : (k : ℕ) → k < entriesOf i → isMasked (modeIn i) ≡ false
   unfolding tableEntries
   entry-plain k h =
       no-masks i a (passed (isIndexed (i .source .format))

@@ -8,3 +8,6 @@ pub mod PlainRows
 pub mod StreamRows
 pub mod Opens
 pub mod Calls
+pub mod Written
+pub mod WrittenProfile
+pub mod ReadBack
