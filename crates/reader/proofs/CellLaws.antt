@@ -130,3 +130,14 @@ pair-whole d value n e = tab-ext _ _ n (λ j h. pair-eight d value j e)
 
 pub eight-bits : (d n from m : ℕ) → d ≡ 8 → from + (n * d + 7) / 8 ≤ m → from + n ≤ m
 eight-bits d n from m e h = let k : from + (n * 8 + 7) / 8 ≤ m = subst (λ (z : ℕ). from + (n * z + 7) / 8 ≤ m) e h in omega arith
+
+-- a depth with a table that is none of three is the fourth
+pub depth-one : (d : ℕ) → hasTable d ≡ true → (d ≡ 8 → ⊥) → (d ≡ 4 → ⊥) → (d ≡ 2 → ⊥) → d ≡ 1
+depth-one d t a b c = table-cases (λ k. (k ≡ 8 → ⊥) → (k ≡ 4 → ⊥) → (k ≡ 2 → ⊥) → k ≡ 1) (λ a b c. refl) (λ a b c. absurd (c refl)) (λ a b c. absurd (b refl)) (λ a b c. absurd (a refl)) d t a b c
+
+-- what is asked and given at a depth that is known
+pub known-bytes : (d k n from m : ℕ) → d ≡ k → from + (n * d + 7) / 8 ≤ m → from + (n * k + 7) / 8 ≤ m
+known-bytes d k n from m e h = subst (λ (z : ℕ). from + (n * z + 7) / 8 ≤ m) e h
+
+pub known-indices : (file was later : List ℕ) (from d k n to : ℕ) → d ≡ k → later ≡ put was to (tab (cellAt k (drop from file)) n) → later ≡ put was to (tab (cellAt d (drop from file)) n)
+known-indices file was later from d k n to e h = subst (λ (z : ℕ). later ≡ put was to (tab (cellAt z (drop from file)) n)) (sym e) h

@@ -263,3 +263,38 @@ row-put file is later t y stored stride to numbers e f g q =
 
 pub rows-done : (file was is : List ℕ) (t : Fields) (y : ℕ) → is ≡ put was 0 (cat (rowAt file t) y) → y ≡ shownHeight t → is ≡ put was 0 (plainNumbers file t)
 rows-done file was is t y e f = e ∙ ap (λ (n : ℕ). put was 0 (cat (rowAt file t) n)) f ∙ ap (put was 0) (all-rows file t)
+
+-- ---- at a depth that is known
+
+other-bytes : {d : ℕ} → (d ≡ 24) ⊎ (d ≡ 32) → (d ≡ 24 → ⊥) → d ≡ 32
+other-bytes (inl e) n = absurd (n e)
+other-bytes (inr e) n = e
+
+other-words : {d : ℕ} → (d ≡ 16) ⊎ (d ≡ 32) → (d ≡ 16 → ⊥) → d ≡ 32
+other-words (inl e) n = absurd (n e)
+other-words (inr e) n = e
+
+module _ (t : Fields) (k : Way t) (deep : 8 < t .depth) where
+  pub is-32-bytes : (eqb (t .compression) 0 && not (eqb (t .depth) 16)) ≡ true → (t .depth ≡ 24 → ⊥) → t .depth ≡ 32
+  is-32-bytes e n = other-bytes (row-bytes t k deep e .0) n
+
+  pub is-32-words : (eqb (t .compression) 0 && not (eqb (t .depth) 16)) ≡ false → (t .depth ≡ 16 → ⊥) → t .depth ≡ 32
+  is-32-words e n = other-words (row-words t k deep e) n
+
+pub known-size : (w d j size from m : ℕ) → d ≡ j → j / 8 ≡ size → (j ≡ 16) ⊎ ((j ≡ 24) ⊎ (j ≡ 32)) → from + rowStride w d ≤ m → from + w * size ≤ m
+known-size w d j size from m e f k h =
+    let b : w * (d / 8) ≤ rowStride w d = bytes-fit w d (subst (λ (z : ℕ). (z ≡ 16) ⊎ ((z ≡ 24) ⊎ (z ≡ 32))) (sym e) k) in
+    let q : d / 8 ≡ size = ap (λ (z : ℕ). z / 8) e ∙ f in
+    let c : w * size ≤ rowStride w d = subst (λ (z : ℕ). w * z ≤ rowStride w d) q b in
+    omega arith
+
+pub known-quads : (file was later : List ℕ) (t : Fields) (from to j size : ℕ) → t .depth ≡ j → j / 8 ≡ size → (j ≡ 24) ⊎ (j ≡ 32) → t .compression ≡ 0
+    → later ≡ put was to (cat (bytesQuad file from size) (t .width)) → later ≡ put was to (numbersIn file t (drop from file))
+known-quads file was later t from to j size e f k c h =
+    let q : size ≡ t .depth / 8 = sym (ap (λ (z : ℕ). z / 8) e ∙ f) in
+    h ∙ ap (λ (z : ℕ). put was to (cat (bytesQuad file from z) (t .width))) q ∙ ap (put was to) (byte-row file t from (subst (λ (z : ℕ). (z ≡ 24) ⊎ (z ≡ 32)) (sym e) k) c)
+
+pub known-words : (file was later : List ℕ) (t : Fields) (from to j : ℕ) (channels : Channels) → t .depth ≡ j → Way t → 8 < t .depth → (eqb (t .compression) 0 && not (eqb (t .depth) 16)) ≡ false
+    → channels ≡ channelsFor file (t .compression) → later ≡ put was to (cat (λ x. quadUnder channels (cellWord j (drop from file) x)) (t .width)) → later ≡ put was to (numbersIn file t (drop from file))
+known-words file was later t from to j channels e k deep n q h =
+    h ∙ ap (λ (z : ℕ). put was to (cat (λ x. quadUnder channels (cellWord z (drop from file) x)) (t .width))) (sym e) ∙ ap (put was to) (word-row file t from channels k deep n q)

@@ -78,7 +78,16 @@ pub(crate) fn put_indices(
         widen(file, from, n, cells, to);
         return;
     }
-    unpack(file, from, depth, n, cells, to);
+    // With a depth that is known each loop is compiled for itself.
+    if depth == 4 {
+        unpack(file, from, 4, n, cells, to);
+        return;
+    }
+    if depth == 2 {
+        unpack(file, from, 2, n, cells, to);
+        return;
+    }
+    unpack(file, from, 1, n, cells, to);
 }
 
 fn first_if(first: bool, high: u32, low: u32) -> u32

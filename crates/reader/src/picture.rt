@@ -90,11 +90,20 @@ fn put_row(
         put_indices(file, from, depth, width, cells, to);
         return;
     }
+    // With a size that is known each loop is compiled for itself.
     if (t.compression == BI_RGB) & (depth != 16) {
-        put_bytes(file, from, depth as usize / 8, width, cells, to);
+        if depth == 24 {
+            put_bytes(file, from, 3, width, cells, to);
+            return;
+        }
+        put_bytes(file, from, 4, width, cells, to);
         return;
     }
-    put_words(file, from, depth, channels, width, cells, to);
+    if depth == 16 {
+        put_words(file, from, 16, channels, width, cells, to);
+        return;
+    }
+    put_words(file, from, 32, channels, width, cells, to);
 }
 
 // The stored row that is shown as row y.

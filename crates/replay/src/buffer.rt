@@ -11,7 +11,7 @@ pub(crate) fn space() -> [u8; 16384]
 }
 
 // What the buffer holds before the call.
-fn pattern(seed: u32, i: usize) -> u8 {
+pub(crate) fn pattern(seed: u32, i: usize) -> u8 {
     ((seed as usize + i % 251) % 256) as u8
 }
 

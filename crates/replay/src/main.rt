@@ -1,6 +1,6 @@
 // Replays a stored sample of the original encoder's answers, which comes on standard input
 // (bench/replay/README.md says how it was made and in which format), then runs document 01's examples that
-// are no M lines.
+// are no M lines. Every file that is written is read back.
 mod answers;
 mod buffer;
 mod cases;
@@ -8,7 +8,9 @@ mod examples;
 mod groups;
 mod head;
 mod printing;
+mod reading;
 mod sample;
+mod shown;
 
 use crate::examples::cut_first;
 use crate::examples::four_by_one;
@@ -17,17 +19,21 @@ use crate::examples::one_byte_short;
 use crate::examples::profile_place;
 use crate::examples::tie;
 use crate::examples::width_field;
+use crate::reading::files_line;
 use crate::sample::sample;
 
 fn main() {
     if !sample() {
         return;
     }
-    four_by_one();
-    one_byte_short();
-    tie();
-    cut_first();
-    last_row();
-    profile_place();
-    width_field();
+    let mut files_space = [0u32; 2];
+    let files: &mut [u32] = &mut files_space;
+    four_by_one(files);
+    one_byte_short(files);
+    tie(files);
+    cut_first(files);
+    last_row(files);
+    profile_place(files);
+    width_field(files);
+    files_line(files);
 }

@@ -7,6 +7,7 @@ use crate::head::WORDS;
 use crate::head::word;
 use crate::printing::decimal;
 use crate::printing::text;
+use crate::reading::files_line;
 use libc::STDIN_FILENO;
 
 // The marks of the sample and of a record, "BMPS" and "CASE".
@@ -45,7 +46,7 @@ fn read_record(head: &mut [u8], body: &mut [u8], file: &mut [u8]) -> bool {
 }
 
 // Reads and runs the next record.
-fn step(case: u32, counts: &mut [u32]) -> u32 {
+fn step(case: u32, counts: &mut [u32], files: &mut [u32]) -> u32 {
     let mut head_space = [0u8; 148];
     let head: &mut [u8] = &mut head_space;
     let mut body_space = space();
@@ -55,7 +56,7 @@ fn step(case: u32, counts: &mut [u32]) -> u32 {
     if !read_record(head, body, file) {
         return 2;
     }
-    run_record(case, head, body, file, counts)
+    run_record(case, head, body, file, counts, files)
 }
 
 // How far the sample was read, and the cases that differ.
@@ -64,11 +65,11 @@ struct Tally {
     differ: u32,
 }
 
-fn replayed(cases: u32, counts: &mut [u32]) -> Tally {
+fn replayed(cases: u32, counts: &mut [u32], files: &mut [u32]) -> Tally {
     let mut done = 0;
     let mut differ = 0;
     while done < cases {
-        let outcome = step(done, counts);
+        let outcome = step(done, counts, files);
         if outcome > 1 {
             return Tally {
                 cases: done,
@@ -115,11 +116,14 @@ pub(crate) fn sample() -> bool {
     let cases = word(start, 1);
     let mut counts_space = counters();
     let counts: &mut [u32] = &mut counts_space;
-    let tally = replayed(cases, counts);
+    let mut files_space = [0u32; 2];
+    let files: &mut [u32] = &mut files_space;
+    let tally = replayed(cases, counts, files);
     group_lines(counts);
     decimal(tally.cases as u64);
     text(b" cases, ");
     decimal(tally.differ as u64);
     text(b" differ\n");
+    files_line(files);
     read_whole(cases, tally.cases)
 }

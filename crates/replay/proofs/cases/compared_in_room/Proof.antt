@@ -28,6 +28,9 @@ compared-requires c κs = search needs
 same-length : tie.Need-same-length
 same-length c = search needs
 
+same-length-2 : tie.Need-same-length-2
+same-length-2 c = search needs
+
 returns-2 : tie.Need-returns-2
 returns-2 c = search needs
 
@@ -43,4 +46,5 @@ compared-in-room-spec =
     slice-aggregate-compared
     compared-requires
     same-length
+    same-length-2
     returns-2)

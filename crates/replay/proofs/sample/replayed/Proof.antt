@@ -1,15 +1,15 @@
 use mathlib.Core.Path.{_≡_}
 use Prim.Native.Nat.{_-_, _≤_}
-use native.Mathlib.Omega.{arith}
 use lib.ListN.{length}
+use native.Mathlib.Omega.{arith}
 use Rattle.replay.proofs.sample.replayed.Statement.{statement}
 use Rattle.replay.proofs.sample.replayed.Tie as tie
 
 abbrev Inv-loop : tie.InvT-loop
-Inv-loop cases counts₀ done₀ differ₀ counts done differ = (done ≤ cases) × (differ ≤ done) × (length counts ≡ length counts₀)
+Inv-loop cases counts₀ files₀ done₀ differ₀ counts files done differ = (done ≤ cases) × (differ ≤ done) × (length counts ≡ length counts₀) × (length files ≡ length files₀)
 
 abbrev μ-loop : tie.MeasureT-loop
-μ-loop cases counts₀ done₀ differ₀ counts done differ = cases - done
+μ-loop cases counts₀ files₀ done₀ differ₀ counts files done differ = cases - done
 
 loop-holds : tie.Need-loop-holds Inv-loop μ-loop
 loop-holds c = omega arith
@@ -19,6 +19,9 @@ step-requires c κs = omega arith
 
 same-length : tie.Need-same-length Inv-loop μ-loop
 same-length c = omega arith
+
+same-length-2 : tie.Need-same-length-2 Inv-loop μ-loop
+same-length-2 c = omega arith
 
 returns : tie.Need-returns Inv-loop μ-loop
 returns c = omega arith
@@ -35,8 +38,11 @@ loop-less c = omega arith
 loop-again : tie.Need-loop-again Inv-loop μ-loop
 loop-again c = omega arith
 
-same-length-2 : tie.Need-same-length-2 Inv-loop μ-loop
-same-length-2 c = omega arith
+same-length-3 : tie.Need-same-length-3 Inv-loop μ-loop
+same-length-3 c = omega arith
+
+same-length-4 : tie.Need-same-length-4 Inv-loop μ-loop
+same-length-4 c = omega arith
 
 returns-2 : tie.Need-returns-2 Inv-loop μ-loop
 returns-2 c = omega arith
@@ -50,10 +56,12 @@ replayed-spec =
     loop-holds
     step-requires
     same-length
+    same-length-2
     returns
     add-differ
     add-done
     loop-less
     loop-again
-    same-length-2
+    same-length-3
+    same-length-4
     returns-2)
