@@ -1,8 +1,8 @@
 -- The calls: from the tests to the promises.
 use mathlib.Core.Path.{_≡_, refl, sym, ap, _∙_, subst}
 use mathlib.Core.Logic.{_⊎_, inl, inr}
-use mathlib.Core.Bool.{Bool, true, false, true≢false, cond, _||_}
-use mathlib.Core.List.{List, []}
+use mathlib.Core.Bool.{Bool, true, false, cond, _||_}
+use mathlib.Core.List.{List}
 use Prim.Native.Nat.{ℕ, zero, suc, _+_, _-_, _*_, _≤_, _<_}
 use native.Mathlib.Nat.{suc-ne-zero, mul-le-mul, mul-assoc, mul-comm}
 use native.Mathlib.Omega.{arith}
@@ -12,12 +12,12 @@ use lib.ListN.{length, getD, take, drop, length-take}
 use Rattle.leaves.specs.Put.{put}
 use Rattle.leaves.specs.Sizes.{rowStride}
 use Rattle.format.specs.Decode.{decode}
-use Rattle.format.specs.Readers.{Fields, fieldsOf, wordAt, dwordAt, newer, shows, read, shownHeight, tableCount, rowLength}
+use Rattle.format.specs.Readers.{Fields, fieldsOf, wordAt, dwordAt, shownHeight, tableCount, rowLength}
 use Rattle.format.proofs.Passing.{or-false}
 use Rattle.format.proofs.PlainCells.{length-row}
 use Rattle.reader.specs.declared.read.Reading.{Reading}
 use Rattle.reader.specs.declared.read.ReadingSizes.{ReadingSizes}
-use Rattle.reader.specs.Answers.{sizesFor, refusedReading, rowsShown, rowsIn, Shows, Refuses, Outcome, Read}
+use Rattle.reader.specs.Answers.{sizesFor, refusedReading, rowsShown, rowsIn, Outcome, Read}
 use Rattle.reader.specs.Numbers.{numbersOf, numbersEach, cellCount, headBytes, headIn, tableBytes, tableIn, profileAt, profileBytes}
 use Rattle.reader.specs.Refusals.{writtenPair, isCoded, neverWritten, headerOutside, masksOutside, tableOutside, rowsOutside, profileOutside, outsideFile, buffersTooShort, streamFails, firstApplying, openRows, readRows}
 use Rattle.reader.specs.Rows.{plainNumbers, streamNumbers, WrittenKind}

@@ -1,23 +1,20 @@
 -- One code, as the code tells it.
-use mathlib.Core.Path.{_≡_, refl, sym, ap, _∙_, subst}
-use mathlib.Core.Logic.{_⊎_, inl, inr}
-use mathlib.Core.Bool.{Bool, true, false, true≢false, cond}
-use mathlib.Core.List.{List, [], _∷_, _++_}
+use mathlib.Core.Path.{_≡_, refl, sym, ap, _∙_}
+use mathlib.Core.Bool.{true, false, true≢false}
+use mathlib.Core.List.{List, [], _∷_}
 use Prim.Native.Nat.{ℕ, zero, suc, _+_, _-_, _*_, _/_, _%_, _≤_, _<_}
 use native.Mathlib.Numerals.{add-one}
 use native.Mathlib.Decide.{decLt}
 use native.Mathlib.Omega.{arith}
 use borrow.Author.Tests.{lt-ltb, le-ltb, ne-eqb}
-use lib.Dec.{ltb, eqb}
+use lib.Dec.{eqb}
 use lib.ListN.{length, getD, drop, length-drop}
-use lib.Seq.{drop-cons, drop-drop}
+use lib.Seq.{drop-cons}
 use Rattle.leaves.specs.Lists.{tab}
 use Rattle.leaves.proofs.ListLaws.{length-tab}
-use Rattle.format.specs.Decode.{Decoded, filled, refused, cellAt, pairCell, dataRead, rowFull, readCode}
-use Rattle.format.specs.Shown.{short, badCode, pastRowEnd}
-use Rattle.reader.specs.declared.stream.Code.{Code}
+use Rattle.format.specs.Decode.{Decoded, filled, refused, cellAt, pairCell, dataRead, readCode}
 use Rattle.reader.specs.Refusals.{isRefused}
-use Rattle.reader.specs.Streams.{cellsIn, bytesIn, codeOf, marksEnd}
+use Rattle.reader.specs.Streams.{codeOf, marksEnd}
 
 -- ---- the bytes at a place
 

@@ -3,21 +3,21 @@ use mathlib.Core.Path.{_≡_, refl, sym, ap, _∙_, subst}
 use mathlib.Core.Logic.{_⊎_, inl, inr}
 use mathlib.Core.Bool.{Bool, true, false, not, cond, _&&_, _||_}
 use mathlib.Core.List.{List}
-use Prim.Native.Nat.{ℕ, zero, suc, _+_, _-_, _*_, _/_, _^_, _≤_, _<_}
+use Prim.Native.Nat.{ℕ, zero, _+_, _-_, _*_, _^_, _≤_, _<_}
 use native.Mathlib.Nat.{mul-le-mul}
 use native.Mathlib.Omega.{arith}
-use borrow.Author.Tests.{ltb-false, lt-ltb, le-leb, lt-leb, leb-true, leb-false, eqb-true, eqb-false, eq-eqb, ne-eqb, not-false}
+use borrow.Author.Tests.{ltb-false, lt-ltb, le-leb, lt-leb, leb-true, leb-false, eqb-true, eqb-false, not-false}
 use lib.Dec.{ltb, leb, eqb}
 use lib.ListN.{length, drop}
 use lib.Pow.{pow-mono}
 use Rattle.leaves.specs.Masks.{bitfieldsRows}
 use Rattle.leaves.specs.Refusals.{firstNumber}
 use Rattle.leaves.specs.Sizes.{hasTable, rowStride}
-use Rattle.format.specs.Readers.{Fields, fieldsOf, wordAt, topFirst, shownHeight, tableCount, rowLength}
+use Rattle.format.specs.Readers.{Fields, fieldsOf, wordAt, topFirst, shownHeight, tableCount}
 use Rattle.format.proofs.Passing.{or-false, and-false}
 use Rattle.format.proofs.PlainCells.{length-row}
-use Rattle.reader.specs.Numbers.{headBytes, tableBytes, profileBytes, profileAt}
-use Rattle.reader.specs.Refusals.{strangeMark, strangeHeader, noWidth, noHeight, strangeDepth, strangeCompression, strangePair, negativeStream, manyColours, strangeSizes, strangeKind, writtenPair, isCoded, masksOf, masksEnd, refusedMasks, strangeMasks, neverWritten, masksOutside, rowsOutside, outsideFile, firstApplying, openRows}
+use Rattle.reader.specs.Numbers.{profileBytes, profileAt}
+use Rattle.reader.specs.Refusals.{strangeMark, strangeHeader, noWidth, noHeight, strangeDepth, strangeCompression, strangePair, negativeStream, manyColours, strangeSizes, strangeKind, writtenPair, isCoded, masksOf, masksEnd, refusedMasks, strangeMasks, neverWritten, outsideFile, firstApplying, openRows}
 
 -- ---- tests
 

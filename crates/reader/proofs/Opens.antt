@@ -1,29 +1,26 @@
 -- Files that no number refuses: the newer reader shows them, and what it shows is what is filled in.
 use mathlib.Core.Path.{_≡_, refl, sym, ap, _∙_, subst}
-use mathlib.Core.Logic.{_⊎_, inl, inr}
-use mathlib.Core.Bool.{Bool, true, false, true≢false, not, cond, _&&_, _||_}
+use mathlib.Core.Bool.{Bool, true, false, true≢false, not, cond, _||_}
 use mathlib.Core.List.{List, [], _∷_, _++_, append-assoc, append-nil}
-use Prim.Native.Nat.{ℕ, zero, suc, _+_, _-_, _*_, _/_, _^_, _≤_, _<_, max}
-use native.Mathlib.Nat.{mul-le-mul-right, suc-mul}
+use Prim.Native.Nat.{ℕ, zero, suc, _+_, _-_, _*_, _/_, _≤_, _<_, max}
+use native.Mathlib.Nat.{suc-mul}
 use native.Mathlib.Omega.{arith}
-use borrow.Author.Tests.{ltb-false, le-ltb, le-leb, eqb-true, eq-eqb, ne-eqb, not-false}
-use lib.Dec.{ltb, leb, eqb}
+use borrow.Author.Tests.{ltb-false, le-ltb, eqb-true}
+use lib.Dec.{ltb, eqb}
 use lib.ListN.{length, getD, drop}
 use Rattle.leaves.specs.Lists.{tab, cat}
-use Rattle.leaves.specs.Sizes.{hasTable, rowStride}
 use Rattle.leaves.proofs.ListLaws.{cat-ext}
 use Rattle.format.specs.Decode.{Decoded, filled, refused, decode}
-use Rattle.format.specs.Readers.{Fields, fieldsOf, newer, Reading, shows, refuses, shownHeight, tableCount, knowsDepth, knowsCompression, pairs, rowLength, rowFrom, storedAt, plainCell, rgbCell, maskCell, cellWord, paletteOf, picture, streamed, headNeeds, pixelNeeds, noCell, body, readFields, read}
+use Rattle.format.specs.Readers.{Fields, fieldsOf, newer, shows, refuses, shownHeight, tableCount, knowsDepth, knowsCompression, pairs, rowLength, storedAt, plainCell, paletteOf, picture, streamed, headNeeds, pixelNeeds, body, readFields, read}
 use Rattle.format.specs.Shown.{Cell, index, Shown}
 use Rattle.format.proofs.Passing.{or-false, and-false}
 use Rattle.format.proofs.Pictures.{some-cell}
 use Rattle.format.proofs.PlainCells.{length-row}
-use Rattle.reader.specs.Answers.{rowsIn}
 use Rattle.reader.specs.Numbers.{cellNumbers, rowNumbers, numbersOf, headBytes, tableBytes, profileAt, profileBytes}
 use Rattle.reader.specs.Refusals.{writtenPair, isCoded, masksEnd, neverWritten, headerOutside, masksOutside, tableOutside, rowsOutside, profileOutside, outsideFile, isRefused, streamFails}
-use Rattle.reader.specs.Rows.{cellIn, numbersIn, plainNumbers, streamNumbers, WrittenKind}
+use Rattle.reader.specs.Rows.{cellIn, numbersIn, plainNumbers, streamNumbers}
 use Rattle.reader.specs.Streams.{cellsIn}
-use Rattle.reader.proofs.Heads.{depth-cases, writtenDepth, Kind, Sound, sound-at, depth-small}
+use Rattle.reader.proofs.Heads.{depth-cases, writtenDepth, Sound, sound-at}
 use Rattle.reader.proofs.PlainRows.{bits-fit}
 
 -- ---- what is known where 17 and 18 do not apply

@@ -2,23 +2,22 @@
 use mathlib.Core.Path.{_≡_, refl, sym, ap, _∙_, subst}
 use mathlib.Core.Logic.{_⊎_, inl, inr}
 use mathlib.Core.Bool.{Bool, true, false, true≢false, not, cond, _&&_, _||_}
-use mathlib.Core.List.{List, [], _∷_, _++_}
+use mathlib.Core.List.{List, [], _∷_}
 use Prim.Native.Nat.{ℕ, zero, suc, _+_, _-_, _*_, _/_, _%_, _^_, _≤_, _<_}
 use native.Mathlib.Nat.{mul-le-mul-right, suc-mul, zero-add}
 use native.Mathlib.Omega.{arith}
-use borrow.Author.Tests.{le-leb, lt-leb, leb-true, leb-false, eq-eqb, ne-eqb, eqb-true, eqb-false}
+use borrow.Author.Tests.{le-leb, lt-leb, eqb-true}
 use lib.Bits.{bitAnd, and-zero-r}
 use lib.Count.{trailingZeros}
 use lib.Dec.{leb, eqb}
-use lib.ListN.{length, getD, drop}
+use lib.ListN.{length, drop}
 use lib.Seq.{getD-drop}
 use Rattle.leaves.specs.Lists.{tab, cat}
 use Rattle.leaves.specs.Put.{put}
 use Rattle.leaves.specs.Sizes.{hasTable, rowStride}
 use Rattle.leaves.proofs.ListLaws.{cat-ext, length-cat}
 use Rattle.format.specs.Decode.{cellAt}
-use Rattle.format.specs.Readers.{Fields, dwordAt, topFirst, storedAt, shownHeight, rowFrom, rowLength, cellWord, five, rgbCell, channel, maskCell}
-use Rattle.format.specs.Shown.{Cell, index, rgb, rgba}
+use Rattle.format.specs.Readers.{Fields, dwordAt, topFirst, storedAt, shownHeight, rowFrom, cellWord, five, rgbCell, channel, maskCell}
 use Rattle.format.proofs.PlainCells.{bits-under, length-row}
 use Rattle.reader.specs.declared.cells.Channels.{Channels}
 use Rattle.reader.specs.Channels.{bytesQuad, channelAt, valueUnder, quadUnder, channelsFor}

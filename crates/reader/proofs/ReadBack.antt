@@ -1,13 +1,13 @@
 -- The reader beside the newer reader of demand 3, and beside the writer: what was written is read back.
 use mathlib.Core.Path.{_≡_, refl, sym, ap, _∙_, subst}
 use mathlib.Core.Logic.{_⊎_, inl, inr}
-use mathlib.Core.Bool.{Bool, true, false, true≢false, false≢true, not, cond, _&&_, _||_}
+use mathlib.Core.Bool.{Bool, true, false, true≢false, not, cond, _&&_, _||_}
 use mathlib.Core.List.{List, [], _∷_, _++_}
-use Prim.Native.Nat.{ℕ, zero, suc, _+_, _-_, _*_, _≤_, _<_, max}
-use native.Mathlib.Nat.{mul-comm, suc-ne-zero}
+use Prim.Native.Nat.{ℕ, _+_, _-_, _*_, _≤_, _<_, max}
+use native.Mathlib.Nat.{mul-comm}
 use native.Mathlib.Omega.{arith}
 use borrow.Author.Tests.{le-ltb, eqb-true, eqb-false}
-use lib.Dec.{ltb, leb, eqb}
+use lib.Dec.{ltb, eqb}
 use lib.ListN.{length, getD, take, drop}
 use lib.Seq.{drop-at, take-at, drop-drop}
 use Rattle.leaves.specs.declared.error.Check.the-variants.{Passed}
@@ -20,14 +20,14 @@ use Rattle.leaves.specs.Sizes.{rowStride}
 use Rattle.format.specs.Accepted.{Accepted}
 use Rattle.format.specs.Decode.{Decoded, filled, refused, decode}
 use Rattle.format.specs.Expectation.{expected}
-use Rattle.format.specs.File.{modeIn, depthIn, rawBytes, entriesOf, headBytes, tailOf, maxFile, streamUsed, pixels, colourTable, storedHeight, compressionOf, fileSize, fileOf}
+use Rattle.format.specs.File.{modeIn, depthIn, rawBytes, entriesOf, headBytes, tailOf, maxFile, streamUsed, pixels, colourTable, compressionOf, fileSize, fileOf}
 use Rattle.format.specs.Input.{Input}
-use Rattle.format.specs.Layout.{isMasked, rowsCompression, headRest, headerSize, rawLen, tableEntries}
-use Rattle.format.specs.Readers.{Fields, fieldsOf, newer, Reading, shows, refuses, shownHeight, tableCount, rowLength, headNeeds, noCell, streamed, body, read}
+use Rattle.format.specs.Layout.{rowsCompression, headRest, headerSize, rawLen}
+use Rattle.format.specs.Readers.{Fields, fieldsOf, newer, Reading, shows, refuses, shownHeight, tableCount, rowLength, headNeeds, streamed, body, read}
 use Rattle.format.specs.Refusals.{fileTooLarge, bufferTooShort, streamOverBudget, givenMasksRows, checkRows, callRows, planRows, writeRows}
 use Rattle.format.specs.Shown.{Shown, Cause}
 use Rattle.format.proofs.Acceptance.{accepted}
-use Rattle.format.proofs.HeadFields.{fields-read, file-parts, firstPart, restPart, first-length, rest-length, table-length, length-file}
+use Rattle.format.proofs.HeadFields.{fields-read, file-parts, firstPart, restPart, first-length, rest-length, table-length}
 use Rattle.format.proofs.HeadTable.{count-read, header-fills, entry-plain}
 use Rattle.format.proofs.HeadWhole.{head-long, first-there}
 use Rattle.format.proofs.Opening.{newer-opens}
@@ -37,9 +37,9 @@ use Rattle.format.proofs.PlainCells.{length-row}
 use Rattle.format.proofs.Readings.{demand3}
 use Rattle.reader.specs.declared.read.Reading as code
 use Rattle.reader.specs.Answers.{Shows, Outcome, Read}
-use Rattle.reader.specs.Numbers.{numbersOf, headIn, tableIn, profileIn, profileAt, profileBytes, cellCount, tableBytes}
+use Rattle.reader.specs.Numbers.{numbersOf, headIn, tableIn, profileIn, profileAt, profileBytes, tableBytes}
 use Rattle.reader.specs.Numbers as numbers
-use Rattle.reader.specs.Refusals.{isCoded, masksEnd, neverWritten, headerOutside, masksOutside, tableOutside, rowsOutside, profileOutside, outsideFile, buffersTooShort, isRefused, streamFails, firstApplying, readRows}
+use Rattle.reader.specs.Refusals.{isCoded, neverWritten, headerOutside, masksOutside, rowsOutside, outsideFile, buffersTooShort, isRefused, streamFails}
 use Rattle.reader.proofs.Calls.{opened-bytes, number-none}
 use Rattle.reader.proofs.Opens.{shown-of, newer-shown}
 use Rattle.reader.proofs.Written.{never-applies}

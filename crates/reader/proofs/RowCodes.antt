@@ -8,18 +8,16 @@ use native.Mathlib.Nat.{add-zero, add-assoc}
 use native.Mathlib.Omega.{arith}
 use lib.ListN.{length, drop, length-append}
 use lib.Seq.{drop-drop}
-use borrow.Author.Tests.{le-ltb, lt-ltb, ltb-true, ltb-false}
 use lib.Dec.{ltb}
 use Rattle.leaves.specs.Lists.{tab}
 use Rattle.leaves.specs.Put.{put}
 use Rattle.leaves.specs.Sizes.{hasTable}
 use Rattle.leaves.proofs.ListLaws.{length-tab}
-use Rattle.format.specs.Decode.{Decoded, filled, refused, behind, andThen, pairCell, cellAt, dataRead, readCode, fillRow, readRow}
+use Rattle.format.specs.Decode.{Decoded, filled, refused, behind, andThen, pairCell, cellAt, dataRead, readCode, readRow}
 use Rattle.format.specs.Shown.{short, pastRowEnd}
 use Rattle.format.proofs.RowReading.{row-step, row-length}
 use Rattle.format.proofs.StreamReading.{Both, both-read}
 use Rattle.reader.specs.declared.stream.Code.{Code}
-use Rattle.reader.specs.declared.stream.RowEnd.{RowEnd}
 use Rattle.reader.specs.declared.stream.RowEnd.the-variants.{At, Fault}
 use Rattle.reader.specs.Refusals.{isRefused}
 use Rattle.reader.specs.Streams.{cellsIn, bytesIn, codeOf, rowEnd}

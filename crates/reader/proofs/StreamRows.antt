@@ -1,20 +1,19 @@
 -- A stream's rows, filled in from the bottom up.
 use mathlib.Core.Path.{_≡_, refl, sym, ap, _∙_, subst}
-use mathlib.Core.Bool.{Bool, true, false, true≢false}
-use mathlib.Core.List.{List, [], _∷_, _++_, append-assoc, append-nil}
+use mathlib.Core.Bool.{true, false, true≢false}
+use mathlib.Core.List.{List, _++_, append-assoc, append-nil}
 use Prim.Native.Nat.{ℕ, zero, suc, _+_, _-_, _*_, _≤_, _<_}
-use native.Mathlib.Nat.{add-suc, suc-mul, mul-le-mul-right, zero-mul, zero-add}
-use native.Mathlib.Numerals.{add-one}
+use native.Mathlib.Nat.{suc-mul, mul-le-mul-right, zero-add}
 use native.Mathlib.Omega.{arith}
 use lib.ListN.{length, getD, take, drop, length-append, length-drop, length-take}
-use lib.Seq.{drop-drop, getD-drop, take-at, drop-at, length-take-le, take-append-le, take-take}
+use lib.Seq.{drop-drop, getD-drop, drop-at, length-take-le, take-append-le, take-take}
 use Rattle.leaves.specs.Lists.{tab, cat}
 use Rattle.leaves.specs.Put.{put}
 use Rattle.leaves.proofs.ListLaws.{length-tab, tab-ext, cat-ext, length-cat}
 use Rattle.leaves.proofs.Puts.{length-put, put-nil}
 use Rattle.format.specs.Decode.{Decoded, filled, refused, readRow, rowsBelow, decode}
 use Rattle.format.proofs.RowReading.{row-length}
-use Rattle.format.proofs.StreamReading.{RowAt, decode-rows, Last, rows-last, rows-place, rows-length}
+use Rattle.format.proofs.StreamReading.{RowAt, decode-rows, rows-last, rows-place}
 use Rattle.format.proofs.Unpacking.{take-tab}
 use Rattle.reader.specs.Refusals.{isRefused}
 use Rattle.reader.specs.Rows.{streamNumbers}

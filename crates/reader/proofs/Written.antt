@@ -1,36 +1,35 @@
 -- Of the file that an accepted call appends, 17, 18 and 19 do not apply.
-use mathlib.Core.Path.{_≡_, refl, sym, ap, _∙_, subst}
+use mathlib.Core.Path.{_≡_, refl, sym, ap, _∙_}
 use mathlib.Core.Logic.{_⊎_, inl, inr}
 use mathlib.Core.Bool.{Bool, true, false, true≢false, false≢true, not, cond, _&&_, _||_}
-use mathlib.Core.List.{List, [], _∷_, _++_, append-assoc}
-use Prim.Native.Nat.{ℕ, zero, suc, _+_, _-_, _*_, _/_, _%_, _^_, _≤_, _<_, max}
+use mathlib.Core.List.{List, [], _∷_, _++_}
+use Prim.Native.Nat.{ℕ, _+_, _-_, _^_, _≤_, _<_}
 use native.Mathlib.Omega.{arith}
-use borrow.Author.Tests.{ltb-true, ltb-false, le-ltb, lt-ltb, le-leb, lt-leb, leb-true, eqb-true, eq-eqb, ne-eqb, not-true, not-false}
+use borrow.Author.Tests.{ltb-true, le-ltb, lt-leb, eqb-true, ne-eqb, not-false}
 use lib.Count.{onesIn, trailingZeros}
 use lib.Dec.{ltb, leb, eqb}
-use lib.ListN.{length, getD, take, drop, replicate, length-append}
+use lib.ListN.{length, getD}
 use Rattle.leaves.specs.declared.image.BmpPixelFormat.{BmpPixelFormat}
 use Rattle.leaves.specs.declared.image.BmpPixelFormat.the-variants.{Rgba, Rgb24, Bgra, Bgr24, Rgb555, Rgb565, Pal8, Indexed4, Indexed2, Indexed1}
-use Rattle.leaves.specs.declared.error.Check.{Check}
 use Rattle.leaves.specs.declared.error.Check.the-variants.{Passed}
 use Rattle.leaves.specs.Bytes.{le16, le32}
-use Rattle.leaves.specs.Formats.{bitsPerPixel, isRgb565, isIndexed, maskSource}
+use Rattle.leaves.specs.Formats.{bitsPerPixel, isRgb565}
 use Rattle.leaves.specs.Lists.{cat}
 use Rattle.leaves.specs.Masks.{count, lowest, isOneRun, hasAlphaMask, maskCompression, sharesBit, maskRows, bitfieldsRows}
-use Rattle.leaves.specs.Refusals.{profileMode, checkNumber, firstOf, firstNumber}
-use Rattle.leaves.specs.Sizes.{hasTable, paletteEntryCount, clrUsed, rowStride}
+use Rattle.leaves.specs.Refusals.{checkNumber, firstOf}
+use Rattle.leaves.specs.Sizes.{hasTable, paletteEntryCount, clrUsed}
 use Rattle.format.specs.declared.layout.Mode.{Mode}
 use Rattle.format.specs.declared.layout.Mode.the-variants.{Masked, Calibrated, Profiled, Plain}
 use Rattle.format.specs.Accepted.{Accepted}
-use Rattle.format.specs.File.{modeIn, depthIn, rawBytes, entriesOf, headBytes, tailOf, maxFile, streamUsed, storedRowsOf, pixels, storedHeight, compressionOf, fileSize, fileOf, rlePlanned}
+use Rattle.format.specs.File.{modeIn, depthIn, entriesOf, maxFile, streamUsed, storedHeight, compressionOf, fileSize, fileOf}
 use Rattle.format.specs.Headers.{fileHeader, infoHeader}
 use Rattle.format.specs.Input.{Input}
-use Rattle.format.specs.Layout.{modeOf, isMasked, depthOf, headerSize, rawLen, rowsCompression, wantsRle, isPlain, coded, codingAt, isStream}
-use Rattle.format.specs.Readers.{Fields, fieldsOf, wordAt, dwordAt, topFirst, shownHeight, tableCount, rowLength}
-use Rattle.format.proofs.HeadFields.{fieldsIn, fields-read, file-parts, firstPart, restPart}
+use Rattle.format.specs.Layout.{depthOf, headerSize, rowsCompression, coded}
+use Rattle.format.specs.Readers.{wordAt, dwordAt}
+use Rattle.format.proofs.HeadFields.{fields-read, file-parts, restPart}
 use Rattle.format.proofs.HeadMasks.{ColourMasks, masks-read, alpha-read, rgb565-read}
 use Rattle.format.proofs.Modes.{coded-cases, PlannedIn, used-in}
-use Rattle.reader.specs.Refusals.{strangeMark, strangeHeader, noWidth, noHeight, strangeDepth, strangeCompression, strangePair, writtenPair, isCoded, negativeStream, manyColours, refusedMasks, masksOf, masksEnd, strangeMasks, strangeSizes, strangeKind, neverWritten}
+use Rattle.reader.specs.Refusals.{strangeMark, strangeHeader, noWidth, noHeight, strangeDepth, strangeCompression, strangePair, writtenPair, negativeStream, manyColours, refusedMasks, masksOf, masksEnd, neverWritten}
 use Rattle.reader.proofs.Heads.{writtenDepth, behind-six}
 
 -- ---- one field after the other

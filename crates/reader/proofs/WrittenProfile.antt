@@ -1,21 +1,21 @@
 -- The profile of the file that an accepted call appends, and the rest of its bytes: 18 does not apply.
 use mathlib.Core.Path.{_≡_, refl, sym, ap, _∙_, subst}
 use mathlib.Core.Bool.{Bool, true, false, true≢false, false≢true, not, cond, _&&_, _||_}
-use mathlib.Core.List.{List, [], _∷_, _++_, append-assoc}
-use Prim.Native.Nat.{ℕ, zero, suc, _+_, _-_, _*_, _≤_, _<_, max}
+use mathlib.Core.List.{List, [], _∷_, _++_}
+use Prim.Native.Nat.{ℕ, _+_, _-_, _≤_, _<_}
 use native.Mathlib.Omega.{arith}
-use borrow.Author.Tests.{ltb-false, le-ltb, eq-eqb, ne-eqb, eqb-true, eqb-false}
-use lib.Dec.{ltb, eqb}
-use lib.ListN.{length, getD, take, drop, replicate, length-append}
+use borrow.Author.Tests.{eq-eqb, ne-eqb, eqb-true, eqb-false}
+use lib.Dec.{eqb}
+use lib.ListN.{length, getD, take, drop, replicate}
 use lib.Seq.{drop-at, drop-drop, take-all}
 use Rattle.leaves.specs.declared.image.BmpPixelFormat.{BmpPixelFormat}
 use Rattle.leaves.specs.declared.image.BmpPixelFormat.the-variants.{Rgba, Rgb24, Bgra, Bgr24, Rgb555, Rgb565, Pal8, Indexed4, Indexed2, Indexed1}
-use Rattle.leaves.specs.Bytes.{le16, le32}
+use Rattle.leaves.specs.Bytes.{le32}
 use Rattle.leaves.specs.Formats.{isRgb565}
 use Rattle.format.specs.declared.layout.Mode.{Mode}
 use Rattle.format.specs.declared.layout.Mode.the-variants.{Masked, Calibrated, Profiled, Plain}
 use Rattle.format.specs.Accepted.{Accepted}
-use Rattle.format.specs.File.{modeIn, rawBytes, headBytes, tailOf, maxFile, streamUsed, storedRowsOf, pixels, colourTable, fileSize, fileOf}
+use Rattle.format.specs.File.{modeIn, rawBytes, headBytes, tailOf, maxFile, streamUsed, storedRowsOf, pixels, fileSize, fileOf}
 use Rattle.format.specs.Headers.{dwords, v4Fields, v5Fields}
 use Rattle.format.specs.Input.{Input}
 use Rattle.format.specs.Layout.{isPlain, isProfiled, tailIn, headerSize, longMasks, headRest, headLen, wantsRle}

@@ -9,7 +9,7 @@ use Rattle.format.specs.Readers.{fieldsOf, newer, shows, refuses, read, shownHe
 use Rattle.format.specs.Shown.{Cell, Shown}
 use Rattle.reader.specs.declared.read.Reading.{Reading}
 use Rattle.reader.specs.declared.read.ReadingSizes.{ReadingSizes}
-use Rattle.reader.specs.Numbers.{numbersOf, headBytes, headIn, tableBytes, tableIn, cellCount, profileAt, profileBytes, profileIn}
+use Rattle.reader.specs.Numbers.{numbersOf, headBytes, headIn, tableBytes, tableIn, cellCount, profileAt, profileBytes}
 use Rattle.reader.specs.Refusals.{firstApplying, readRows}
 
 -- ---- the sizes

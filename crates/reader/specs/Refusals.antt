@@ -7,7 +7,7 @@ use lib.ListN.{length, drop}
 use Rattle.leaves.specs.Masks.{bitfieldsRows}
 use Rattle.leaves.specs.Refusals.{firstNumber}
 use Rattle.format.specs.Decode.{Decoded, filled, refused, decode}
-use Rattle.format.specs.Readers.{Fields, fieldsOf, wordAt, dwordAt, topFirst, shownHeight, tableCount, rowLength}
+use Rattle.format.specs.Readers.{Fields, fieldsOf, wordAt, dwordAt, shownHeight, rowLength}
 use Rattle.reader.specs.Numbers.{headBytes, tableBytes, cellCount, profileBytes, profileAt}
 
 -- the first row whose test holds decides; 0 where none does

@@ -7,7 +7,7 @@ use lib.Dec.{eqb}
 use lib.ListN.{getD}
 use Rattle.leaves.specs.Lists.{tab, cat}
 use Rattle.leaves.specs.Sizes.{hasTable}
-use Rattle.format.specs.Readers.{Fields, shownHeight, storedAt, rowFrom, cellWord, rgbCell, maskCell, plainCell}
+use Rattle.format.specs.Readers.{Fields, shownHeight, storedAt, rowFrom, cellWord, rgbCell, maskCell}
 use Rattle.format.specs.Shown.{Cell}
 use Rattle.reader.specs.Numbers.{cellNumbers}
 use Rattle.reader.specs.Refusals.{writtenPair, isCoded}

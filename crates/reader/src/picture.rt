@@ -1,11 +1,10 @@
 // Rows from the top: those that are stored as they are, and those of a stream.
 ghost use mathlib.Core.Path.{_≡_};
-ghost use mathlib.Core.Bool.{true, false, cond};
+ghost use mathlib.Core.Bool.{false, cond};
 ghost use mathlib.Core.Logic.{_⊎_};
 ghost use Prim.Native.Nat.{_+_, _-_, _*_, _^_, _≤_, _<_};
 ghost use lib.Dec.{leb};
 ghost use lib.ListN.{length, drop};
-ghost use Rattle.leaves.specs.Lists.{cat};
 ghost use Rattle.leaves.specs.Put.{put};
 ghost use Rattle.leaves.specs.Sizes.{rowStride};
 ghost use Rattle.format.specs.Decode.{decode};
@@ -13,7 +12,7 @@ ghost use Rattle.format.specs.Readers.{shownHeight};
 ghost use Rattle.reader.specs.Channels.{channelsFor, ChannelsOk};
 ghost use Rattle.reader.specs.Fields.{fieldsIn};
 ghost use Rattle.reader.specs.Numbers.{numbersEach};
-ghost use Rattle.reader.specs.Refusals.{writtenPair, isCoded, isRefused};
+ghost use Rattle.reader.specs.Refusals.{isRefused};
 ghost use Rattle.reader.specs.Rows.{numbersIn, plainNumbers, streamNumbers, WrittenKind};
 ghost use Rattle.reader.specs.Streams.{cellsIn};
 use crate::cells::Channels;

@@ -6,8 +6,6 @@ ghost use Prim.Native.Nat.{_+_, _-_, _*_, _/_, _^_, _≤_, _<_};
 ghost use lib.ListN.{length, drop};
 ghost use Rattle.leaves.specs.Put.{put};
 ghost use Rattle.format.specs.Decode.{readCode, readRow, decode};
-ghost use Rattle.format.specs.Readers.{shownHeight};
-ghost use Rattle.reader.specs.Fields.{fieldsIn};
 ghost use Rattle.reader.specs.Refusals.{isRefused};
 ghost use Rattle.reader.specs.Streams.{cellsIn, bytesIn, codeOf, rowEnd, marksEnd};
 use crate::cells::put_indices;

@@ -1,12 +1,8 @@
 use lib.Dec.{eqb}
 use mathlib.Core.Bool.{cond}
 use Rattle.leaves.specs.Lists.{tab}
-use Rattle.reader.proofs.CellLaws.{byte-cell, bits-left, table-depth, bits-inside, one-shifted, packed-is, pair-four, pair-eight, word-cell, bits-small, two-bytes, four-bytes, dword-is}
-use Rattle.reader.proofs.Loops.{SoFar, tab-start, tab-turn, tab-end, cat-start, cat-turn, cat-end, inside, next, put-four-is}
-use denote.Ref.{now}
-use lib.ListN.{length, getD, drop, set, length-set}
-use Prim.Native.Nat.{ℕ, _+_, _-_, _*_, _/_, _%_, _^_, _≤_, _<_}
-use mathlib.Core.Path.{_≡_, refl, sym, ap, _∙_}
+use Rattle.reader.proofs.Loops.{SoFar, tab-start, tab-turn, tab-end}
+use Prim.Native.Nat.{_-_, _%_, _≤_}
 use native.Mathlib.Omega.{arith}
 use Rattle.reader.proofs.cells.alternate.Statement.{statement}
 use Rattle.reader.proofs.cells.alternate.Tie as tie

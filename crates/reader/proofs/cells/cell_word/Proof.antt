@@ -1,12 +1,9 @@
-use Rattle.reader.proofs.CellLaws.{byte-cell, bits-left, table-depth, bits-inside, one-shifted, packed-is, pair-four, pair-eight, word-cell, bits-small, two-bytes, four-bytes, dword-is}
-use Rattle.format.specs.Readers.{wordAt, dwordAt}
+use Rattle.reader.proofs.CellLaws.{two-bytes, four-bytes, dword-is}
+use Rattle.format.specs.Readers.{wordAt}
 use borrow.Author.Tests.{ne-eqb}
 use denote.Ref.{now}
-use lib.ListN.{length, getD, drop, set, length-set}
-use Prim.Native.Nat.{ℕ, _+_, _-_, _*_, _/_, _%_, _^_, _≤_, _<_}
-use mathlib.Core.Path.{_≡_, refl, sym, ap, _∙_}
+use Prim.Native.Nat.{_-_}
 use native.Mathlib.Omega.{arith}
-use borrow.Author.Needs.{needs}
 use Rattle.reader.proofs.cells.cell_word.Statement.{statement}
 use Rattle.reader.proofs.cells.cell_word.Tie as tie
 

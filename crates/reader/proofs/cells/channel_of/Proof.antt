@@ -1,9 +1,6 @@
 use Rattle.leaves.proofs.Runs.{ends-within}
 use borrow.Author.Tests.{ne-eqb}
-use denote.Ref.{now}
-use lib.ListN.{length, getD, drop, set, length-set}
-use Prim.Native.Nat.{ℕ, _+_, _-_, _*_, _/_, _%_, _^_, _≤_, _<_}
-use mathlib.Core.Path.{_≡_, refl, sym, ap, _∙_}
+use Prim.Native.Nat.{_-_}
 use native.Mathlib.Omega.{arith}
 use Rattle.reader.proofs.cells.channel_of.Statement.{statement}
 use Rattle.reader.proofs.cells.channel_of.Tie as tie

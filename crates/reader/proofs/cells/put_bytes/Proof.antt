@@ -1,11 +1,10 @@
-use Rattle.reader.specs.Channels.{bytesQuad, valueUnder, quadUnder}
+use Rattle.reader.specs.Channels.{bytesQuad}
 use Rattle.leaves.specs.Lists.{cat}
-use Rattle.reader.proofs.CellLaws.{bytes-length, bytes-turn, quad-length, words-turn, pair-halves, pair-whole, two-bytes, four-bytes}
-use Rattle.reader.proofs.Loops.{SoFar, tab-start, tab-turn, tab-end, cat-start, cat-turn, cat-end, inside, next, put-four-is}
+use Rattle.reader.proofs.CellLaws.{bytes-length, bytes-turn}
+use Rattle.reader.proofs.Loops.{SoFar, cat-start, cat-turn, cat-end, inside, next}
 use denote.Ref.{now}
-use lib.ListN.{length, getD, drop, set, length-set}
-use Prim.Native.Nat.{ℕ, _+_, _-_, _*_, _/_, _%_, _^_, _≤_, _<_}
-use mathlib.Core.Path.{_≡_, refl, sym, ap, _∙_}
+use Prim.Native.Nat.{_+_, _-_, _*_, _≤_}
+use mathlib.Core.Path.{_≡_}
 use native.Mathlib.Omega.{arith}
 use Rattle.reader.proofs.cells.put_bytes.Statement.{statement}
 use Rattle.reader.proofs.cells.put_bytes.Tie as tie

@@ -1,10 +1,9 @@
-use Rattle.reader.proofs.Loops.{SoFar, tab-start, tab-turn, tab-end, cat-start, cat-turn, cat-end, inside, next, put-four-is}
+use Rattle.reader.proofs.Loops.{put-four-is}
 use denote.Ref.{now}
-use lib.ListN.{length, getD, drop, set, length-set}
-use Prim.Native.Nat.{ℕ, _+_, _-_, _*_, _/_, _%_, _^_, _≤_, _<_}
-use mathlib.Core.Path.{_≡_, refl, sym, ap, _∙_}
+use lib.ListN.{length-set}
+use Prim.Native.Nat.{_-_}
+use mathlib.Core.Path.{refl}
 use native.Mathlib.Omega.{arith}
-use borrow.Author.Needs.{needs}
 use Rattle.reader.proofs.cells.put_four.Statement.{statement}
 use Rattle.reader.proofs.cells.put_four.Tie as tie
 

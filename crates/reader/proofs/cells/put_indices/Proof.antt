@@ -1,11 +1,8 @@
 use Rattle.reader.proofs.CellLaws.{eight-bits, depth-one, known-bytes, known-indices}
-use Rattle.leaves.specs.Put.{put}
 use denote.Ref.{now}
-use lib.ListN.{length, drop}
-use Prim.Native.Nat.{ℕ, _+_, _-_, _*_, _/_, _%_, _^_, _≤_, _<_}
-use mathlib.Core.Logic.{inl, inr}
-use mathlib.Core.Path.{_≡_, refl, sym, ap, _∙_}
-use native.Mathlib.Omega.{arith}
+use lib.ListN.{length}
+use Prim.Native.Nat.{_-_}
+use mathlib.Core.Path.{refl}
 use borrow.Author.Needs.{needs}
 use Rattle.reader.proofs.cells.put_indices.Statement.{statement}
 use Rattle.reader.proofs.cells.put_indices.Tie as tie

@@ -1,10 +1,9 @@
 use borrow.Author.Tests.{ne-eqb}
-use Rattle.reader.proofs.CellLaws.{bytes-length, bytes-turn, quad-length, words-turn, pair-halves, pair-whole, two-bytes, four-bytes}
+use Rattle.reader.proofs.CellLaws.{pair-halves, pair-whole}
 use Rattle.leaves.specs.Put.{put}
 use denote.Ref.{now}
-use lib.ListN.{length, getD, drop, set, length-set}
-use Prim.Native.Nat.{ℕ, _+_, _-_, _*_, _/_, _%_, _^_, _≤_, _<_}
-use mathlib.Core.Path.{_≡_, refl, sym, ap, _∙_}
+use Prim.Native.Nat.{_-_}
+use mathlib.Core.Path.{ap, _∙_}
 use native.Mathlib.Omega.{arith}
 use borrow.Author.Needs.{needs}
 use Rattle.reader.proofs.cells.put_pair.Statement.{statement}

@@ -1,12 +1,12 @@
-use Rattle.reader.proofs.CellLaws.{byte-cell, bits-left, table-depth, bits-inside, one-shifted, packed-is, pair-four, pair-eight, word-cell, bits-small, two-bytes, four-bytes, dword-is}
-use Rattle.format.specs.Decode.{cellAt, pairCell}
+use Rattle.reader.proofs.CellLaws.{byte-cell}
+use Rattle.format.specs.Decode.{cellAt}
 use Rattle.leaves.specs.Lists.{tab}
-use Rattle.reader.proofs.CellLaws.{byte-cell, bits-left, table-depth, bits-inside, one-shifted, packed-is, pair-four, pair-eight, word-cell}
-use Rattle.reader.proofs.Loops.{SoFar, tab-start, tab-turn, tab-end, cat-start, cat-turn, cat-end, inside, next, put-four-is}
+use Rattle.reader.proofs.CellLaws.{byte-cell}
+use Rattle.reader.proofs.Loops.{SoFar, tab-start, tab-turn, tab-end}
 use denote.Ref.{now}
-use lib.ListN.{length, getD, drop, set, length-set}
-use Prim.Native.Nat.{ℕ, _+_, _-_, _*_, _/_, _%_, _^_, _≤_, _<_}
-use mathlib.Core.Path.{_≡_, refl, sym, ap, _∙_}
+use lib.ListN.{drop}
+use Prim.Native.Nat.{_-_, _≤_}
+use mathlib.Core.Path.{_∙_}
 use native.Mathlib.Omega.{arith}
 use Rattle.reader.proofs.cells.widen.Statement.{statement}
 use Rattle.reader.proofs.cells.widen.Tie as tie

@@ -1,6 +1,5 @@
-use borrow.Author.Tests.{le-leb, lt-leb, lt-ltb, eq-eqb, ne-eqb, not-true, not-false}
+use borrow.Author.Tests.{ne-eqb}
 use native.Mathlib.Omega.{arith}
-use borrow.Author.Needs.{needs}
 use Rattle.reader.proofs.checks.alpha_mask.Statement.{statement}
 use Rattle.reader.proofs.checks.alpha_mask.Tie as tie
 

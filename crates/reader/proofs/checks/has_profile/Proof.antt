@@ -5,7 +5,6 @@ use lib.Dec.{eqb}
 use mathlib.Core.Bool.{_&&_, _||_}
 use mathlib.Core.Path.{ap}
 use native.Mathlib.Omega.{arith}
-use borrow.Author.Needs.{needs}
 use Rattle.reader.proofs.checks.has_profile.Statement.{statement}
 use Rattle.reader.proofs.checks.has_profile.Tie as tie
 

@@ -1,5 +1,4 @@
-use borrow.Author.Tests.{le-leb, lt-leb, lt-ltb, eq-eqb, ne-eqb, not-true, not-false}
-use native.Mathlib.Omega.{arith}
+use borrow.Author.Tests.{ne-eqb}
 use Rattle.reader.proofs.checks.masks_end.Statement.{statement}
 use Rattle.reader.proofs.checks.masks_end.Tie as tie
 

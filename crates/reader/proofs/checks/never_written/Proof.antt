@@ -3,7 +3,6 @@ use denote.Ref.{now}
 use mathlib.Core.Path.{sym, _∙_}
 use Rattle.reader.proofs.Heads.{sizes-refused, kind-refused, masks-decide}
 use native.Mathlib.Omega.{arith}
-use borrow.Author.Needs.{needs}
 use Rattle.reader.proofs.checks.never_written.Statement.{statement}
 use Rattle.reader.proofs.checks.never_written.Tie as tie
 

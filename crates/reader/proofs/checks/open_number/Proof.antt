@@ -1,7 +1,5 @@
 use mathlib.Core.Path.{sym, _∙_}
 use Rattle.reader.proofs.Heads.{number-never, number-outside, number-opens}
-use native.Mathlib.Omega.{arith}
-use borrow.Author.Needs.{needs}
 use Rattle.reader.proofs.checks.open_number.Statement.{statement}
 use Rattle.reader.proofs.checks.open_number.Tie as tie
 

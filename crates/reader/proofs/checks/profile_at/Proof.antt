@@ -1,5 +1,5 @@
 use Rattle.reader.specs.Numbers.{profileAt}
-use borrow.Author.Tests.{le-leb, lt-leb, lt-ltb, eq-eqb, ne-eqb, not-true, not-false}
+use borrow.Author.Tests.{ne-eqb}
 use native.Mathlib.Omega.{arith}
 use borrow.Author.Needs.{needs}
 use Rattle.reader.proofs.checks.profile_at.Statement.{statement}

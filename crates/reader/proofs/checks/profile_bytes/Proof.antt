@@ -1,7 +1,6 @@
 use Rattle.reader.specs.Numbers.{profileBytes}
 use mathlib.Core.Path.{sym, _∙_}
 use native.Mathlib.Omega.{arith}
-use borrow.Author.Needs.{needs}
 use Rattle.reader.proofs.checks.profile_bytes.Statement.{statement}
 use Rattle.reader.proofs.checks.profile_bytes.Tie as tie
 

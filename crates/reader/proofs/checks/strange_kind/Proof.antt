@@ -1,7 +1,6 @@
 use Rattle.reader.specs.Fields.{fieldsIn}
 use Rattle.reader.proofs.Heads.{kind-computed}
 use native.Mathlib.Omega.{arith}
-use borrow.Author.Needs.{needs}
 use Rattle.reader.proofs.checks.strange_kind.Statement.{statement}
 use Rattle.reader.proofs.checks.strange_kind.Tie as tie
 

@@ -10,7 +10,6 @@ use borrow.Author.Tests.{not-true, not-false}
 use mathlib.Core.Path.{sym, _∙_}
 use Rattle.reader.proofs.Heads.{no-masks, masks-cut, masks-checked}
 use native.Mathlib.Omega.{arith}
-use borrow.Author.Needs.{needs}
 use Rattle.reader.proofs.checks.strange_masks.Statement.{statement}
 use Rattle.reader.proofs.checks.strange_masks.Tie as tie
 

@@ -1,8 +1,7 @@
 use mathlib.Core.Path.{_∙_}
 use Rattle.format.specs.Readers.{tableCount}
-use borrow.Author.Tests.{le-leb, lt-leb, eq-eqb, ne-eqb}
+use borrow.Author.Tests.{le-leb, lt-leb, ne-eqb}
 use native.Mathlib.Omega.{arith}
-use borrow.Author.Needs.{needs}
 use Rattle.reader.proofs.fields.table_count.Statement.{statement}
 use Rattle.reader.proofs.fields.table_count.Tie as tie
 

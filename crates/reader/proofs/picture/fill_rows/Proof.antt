@@ -3,16 +3,14 @@ use Rattle.format.specs.Readers.{shownHeight, storedAt, rowFrom}
 use Rattle.leaves.specs.Sizes.{rowStride}
 use Rattle.leaves.specs.Lists.{cat}
 use lib.Dec.{leb}
-use Rattle.reader.proofs.Loops.{SoFar, cat-start, cat-turn, cat-end}
+use Rattle.reader.proofs.Loops.{SoFar, cat-start, cat-turn}
 use Rattle.reader.proofs.PlainRows.{rowAt, few-numbers, part-inside, stored-is, row-put, rows-done}
-use Rattle.reader.proofs.PlainRows.{Way, way, row-indices, row-bytes, row-words, index-row, byte-row, row-numbers, bits-fit, bytes-fit, stored-inside, row-here, all-rows}
-use Rattle.leaves.specs.Put.{put}
+use Rattle.reader.proofs.PlainRows.{way, row-numbers}
 use Rattle.reader.specs.Fields.{fieldsIn}
-use borrow.Author.Tests.{le-leb, lt-leb, ne-eqb, eq-eqb, not-true, not-false}
 use denote.Ref.{now}
-use lib.ListN.{length, getD, drop, set, length-set, length-drop}
-use Prim.Native.Nat.{ℕ, _+_, _-_, _*_, _/_, _%_, _^_, _≤_, _<_}
-use mathlib.Core.Path.{_≡_, refl, sym, ap, _∙_}
+use lib.ListN.{length}
+use Prim.Native.Nat.{ℕ, _-_, _*_, _≤_}
+use mathlib.Core.Path.{_≡_, sym, ap, _∙_}
 use native.Mathlib.Omega.{arith}
 use Rattle.reader.proofs.picture.fill_rows.Statement.{statement}
 use Rattle.reader.proofs.picture.fill_rows.Tie as tie

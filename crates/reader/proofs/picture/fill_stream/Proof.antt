@@ -3,9 +3,9 @@ use Rattle.format.specs.Decode.{decode}
 use mathlib.Core.Bool.{false}
 use Rattle.reader.proofs.StreamRows.{Rising, rising-start, rising-place, rising-good, rising-room, rising-turn, rising-end}
 use denote.Ref.{now}
-use lib.ListN.{length, getD, drop, set, length-set, length-drop}
-use Prim.Native.Nat.{ℕ, _+_, _-_, _*_, _/_, _%_, _^_, _≤_, _<_}
-use mathlib.Core.Path.{_≡_, refl, sym, ap, _∙_}
+use lib.ListN.{drop}
+use Prim.Native.Nat.{_-_, _<_}
+use mathlib.Core.Path.{_≡_}
 use native.Mathlib.Omega.{arith}
 use Rattle.reader.proofs.picture.fill_stream.Statement.{statement}
 use Rattle.reader.proofs.picture.fill_stream.Tie as tie

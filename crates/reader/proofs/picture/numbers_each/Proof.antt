@@ -1,9 +1,5 @@
-use borrow.Author.Tests.{le-leb, lt-leb, ne-eqb, eq-eqb, not-true, not-false}
-use denote.Ref.{now}
-use lib.ListN.{length, getD, drop, set, length-set, length-drop}
-use Prim.Native.Nat.{ℕ, _+_, _-_, _*_, _/_, _%_, _^_, _≤_, _<_}
-use mathlib.Core.Path.{_≡_, refl, sym, ap, _∙_}
-use native.Mathlib.Omega.{arith}
+use borrow.Author.Tests.{le-leb, lt-leb}
+use Prim.Native.Nat.{_-_}
 use Rattle.reader.proofs.picture.numbers_each.Statement.{statement}
 use Rattle.reader.proofs.picture.numbers_each.Tie as tie
 

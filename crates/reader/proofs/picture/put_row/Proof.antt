@@ -2,10 +2,10 @@ use Rattle.reader.proofs.PlainRows.{way, row-indices, row-bytes, index-
 use Rattle.reader.specs.Fields.{fieldsIn}
 use Rattle.leaves.specs.Put.{put}
 use denote.Ref.{now}
-use lib.ListN.{length, drop}
-use Prim.Native.Nat.{ℕ, _+_, _-_, _*_, _/_, _%_, _^_, _≤_, _<_}
+use lib.ListN.{length}
+use Prim.Native.Nat.{_-_}
 use mathlib.Core.Logic.{inl, inr}
-use mathlib.Core.Path.{_≡_, refl, sym, ap, _∙_}
+use mathlib.Core.Path.{refl, ap, _∙_}
 use native.Mathlib.Omega.{arith}
 use borrow.Author.Needs.{needs}
 use Rattle.reader.proofs.picture.put_row.Statement.{statement}

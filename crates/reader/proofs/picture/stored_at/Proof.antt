@@ -1,9 +1,5 @@
-use denote.Ref.{now}
-use lib.ListN.{length, getD, drop, set, length-set, length-drop}
-use Prim.Native.Nat.{ℕ, _+_, _-_, _*_, _/_, _%_, _^_, _≤_, _<_}
-use mathlib.Core.Path.{_≡_, refl, sym, ap, _∙_}
+use Prim.Native.Nat.{_-_}
 use native.Mathlib.Omega.{arith}
-use borrow.Author.Needs.{needs}
 use Rattle.reader.proofs.picture.stored_at.Statement.{statement}
 use Rattle.reader.proofs.picture.stored_at.Tie as tie
 

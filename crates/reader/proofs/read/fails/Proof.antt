@@ -1,13 +1,11 @@
-use Rattle.reader.proofs.Opens.{Opened, opened, fails-coded, fails-never, stream-shown, rows-shown, stream-numbers, stored-numbers}
-use Rattle.reader.proofs.Calls.{height-small, opened-bytes, open-passes, number-open, number-short, number-fails, number-none, sizes-refused, sizes-told, Sizes, sizes-open, sizes-stop, table-inside, read-refused, read-done, product-small, opened-at, coded-kind, plain-kind, cells-room, rows-room}
-use borrow.Author.Tests.{le-leb, lt-leb, ne-eqb, eq-eqb, not-true, not-false}
+use Rattle.reader.proofs.Opens.{opened, fails-coded, fails-never}
+use Rattle.reader.proofs.Calls.{height-small, coded-kind}
+use borrow.Author.Tests.{not-true, not-false}
 use Rattle.reader.specs.Fields.{fieldsIn}
 use denote.Ref.{now}
-use lib.ListN.{length, getD, take, drop}
-use Prim.Native.Nat.{ℕ, _+_, _-_, _*_, _/_, _%_, _^_, _≤_, _<_}
-use mathlib.Core.Path.{_≡_, refl, sym, ap, _∙_}
+use Prim.Native.Nat.{_-_}
+use mathlib.Core.Path.{sym, _∙_}
 use native.Mathlib.Omega.{arith}
-use borrow.Author.Needs.{needs}
 use Rattle.reader.proofs.read.fails.Statement.{statement}
 use Rattle.reader.proofs.read.fails.Tie as tie
 

@@ -1,9 +1,8 @@
 use Rattle.reader.proofs.Calls.{profile-inside, part-is}
 use Rattle.reader.proofs.Calls.{profile-inside}
 use denote.Ref.{now}
-use lib.ListN.{length, getD, take, drop}
-use Prim.Native.Nat.{ℕ, _+_, _-_, _*_, _/_, _%_, _^_, _≤_, _<_}
-use mathlib.Core.Path.{_≡_, refl, sym, ap, _∙_}
+use Prim.Native.Nat.{_-_}
+use mathlib.Core.Path.{refl}
 use native.Mathlib.Omega.{arith}
 use borrow.Author.Needs.{needs}
 use Rattle.reader.proofs.read.read_into.Statement.{statement}

@@ -1,11 +1,10 @@
-use Rattle.format.specs.Decode.{readCode, readRow}
-use Rattle.reader.proofs.Codes.{none-of, refused-short, there, pair-is, pair-told, pair-over, escape-small, escape-over, escape-cut, block-is, block-told, good-pair, good-long, good-room, good-data, good-there, two-bytes, ends-short, ends-told, ends-not}
+use Rattle.format.specs.Decode.{readCode}
+use Rattle.reader.proofs.Codes.{none-of, refused-short, there, pair-told, pair-over, escape-small, escape-over, escape-cut, block-told}
 use denote.Ref.{now}
-use lib.ListN.{length, getD, drop, set, length-set, length-drop}
-use Prim.Native.Nat.{ℕ, _+_, _-_, _*_, _/_, _%_, _^_, _≤_, _<_}
-use mathlib.Core.Path.{_≡_, refl, sym, ap, _∙_}
+use lib.ListN.{getD, drop}
+use Prim.Native.Nat.{_+_, _-_}
+use mathlib.Core.Path.{refl}
 use native.Mathlib.Omega.{arith}
-use borrow.Author.Needs.{needs}
 use Rattle.reader.proofs.stream.code_at.Statement.{statement}
 use Rattle.reader.proofs.stream.code_at.Tie as tie
 

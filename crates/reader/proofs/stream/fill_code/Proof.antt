@@ -2,12 +2,11 @@ use Rattle.reader.proofs.RowCodes.{coded-table, coded-small}
 use Rattle.reader.specs.Streams.{cellsIn}
 use Rattle.leaves.specs.Put.{put}
 use Rattle.format.specs.Decode.{Decoded}
-use Rattle.format.specs.Decode.{readCode, readRow}
-use Rattle.reader.proofs.Codes.{none-of, refused-short, there, pair-is, pair-told, pair-over, escape-small, escape-over, escape-cut, block-is, block-told, good-pair, good-long, good-room, good-data, good-there, two-bytes, ends-short, ends-told, ends-not}
+use Rattle.reader.proofs.Codes.{pair-is, pair-told, block-is, block-told, good-pair, good-long, good-room, good-data, good-there}
 use denote.Ref.{now}
-use lib.ListN.{length, getD, drop, set, length-set, length-drop}
-use Prim.Native.Nat.{ℕ, _+_, _-_, _*_, _/_, _%_, _^_, _≤_, _<_}
-use mathlib.Core.Path.{_≡_, refl, sym, ap, _∙_}
+use lib.ListN.{length, getD}
+use Prim.Native.Nat.{_+_, _-_, _*_, _/_}
+use mathlib.Core.Path.{refl, sym, ap, _∙_}
 use native.Mathlib.Omega.{arith}
 use borrow.Author.Needs.{needs}
 use Rattle.reader.proofs.stream.fill_code.Statement.{statement}

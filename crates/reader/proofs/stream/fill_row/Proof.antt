@@ -1,9 +1,6 @@
 use Rattle.reader.proofs.RowCodes.{code-fits}
-use Rattle.reader.proofs.RowCodes.{row-fault, row-turn, row-whole, RowFill, fill-start, fill-code-good, fill-turn, fill-end}
-use denote.Ref.{now}
-use lib.ListN.{length, getD, drop, set, length-set, length-drop}
-use Prim.Native.Nat.{ℕ, _+_, _-_, _*_, _/_, _%_, _^_, _≤_, _<_}
-use mathlib.Core.Path.{_≡_, refl, sym, ap, _∙_}
+use Rattle.reader.proofs.RowCodes.{RowFill, fill-start, fill-code-good, fill-turn, fill-end}
+use Prim.Native.Nat.{_-_}
 use native.Mathlib.Omega.{arith}
 use Rattle.reader.proofs.stream.fill_row.Statement.{statement}
 use Rattle.reader.proofs.stream.fill_row.Tie as tie

@@ -1,10 +1,8 @@
-use Rattle.reader.proofs.Codes.{none-of, refused-short, there, pair-is, pair-told, pair-over, escape-small, escape-over, escape-cut, block-is, block-told, good-pair, good-long, good-room, good-data, good-there, two-bytes, ends-short, ends-told, ends-not}
+use Rattle.reader.proofs.Codes.{two-bytes, ends-short, ends-told, ends-not}
 use denote.Ref.{now}
-use lib.ListN.{length, getD, drop, set, length-set, length-drop}
-use Prim.Native.Nat.{ℕ, _+_, _-_, _*_, _/_, _%_, _^_, _≤_, _<_}
-use mathlib.Core.Path.{_≡_, refl, sym, ap, _∙_}
+use lib.ListN.{getD, drop, length-drop}
+use Prim.Native.Nat.{_+_, _-_}
 use native.Mathlib.Omega.{arith}
-use borrow.Author.Needs.{needs}
 use Rattle.reader.proofs.stream.marks_end.Statement.{statement}
 use Rattle.reader.proofs.stream.marks_end.Tie as tie
 

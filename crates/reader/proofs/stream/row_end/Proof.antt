@@ -1,10 +1,10 @@
 use Rattle.reader.specs.Streams.{rowEnd}
-use Rattle.format.specs.Decode.{readCode, readRow}
-use Rattle.reader.proofs.RowCodes.{row-fault, row-turn, row-whole, RowFill, fill-start, fill-code-good, fill-turn, fill-end}
+use Rattle.format.specs.Decode.{readRow}
+use Rattle.reader.proofs.RowCodes.{row-fault, row-turn, row-whole}
 use denote.Ref.{now}
-use lib.ListN.{length, getD, drop, set, length-set, length-drop}
-use Prim.Native.Nat.{ℕ, _+_, _-_, _*_, _/_, _%_, _^_, _≤_, _<_}
-use mathlib.Core.Path.{_≡_, refl, sym, ap, _∙_}
+use lib.ListN.{drop}
+use Prim.Native.Nat.{_+_, _-_, _*_, _≤_}
+use mathlib.Core.Path.{_≡_, refl, sym, _∙_}
 use native.Mathlib.Omega.{arith}
 use Rattle.reader.proofs.stream.row_end.Statement.{statement}
 use Rattle.reader.proofs.stream.row_end.Tie as tie

@@ -2,9 +2,8 @@ use borrow.Author.Needs.{needs}
 use borrow.Author.Tests.{not-true, not-false}
 use Rattle.reader.proofs.Trials.{Trial, trial-start, trial-place, trial-fault, trial-unmarked, trial-turn, trial-end, marked-inside}
 use denote.Ref.{now}
-use lib.ListN.{length, getD, drop, set, length-set, length-drop}
-use Prim.Native.Nat.{ℕ, _+_, _-_, _*_, _/_, _%_, _^_, _≤_, _<_}
-use mathlib.Core.Path.{_≡_, refl, sym, ap, _∙_}
+use Prim.Native.Nat.{_-_}
+use mathlib.Core.Path.{sym, _∙_}
 use native.Mathlib.Omega.{arith}
 use Rattle.reader.proofs.stream.stream_fails.Statement.{statement}
 use Rattle.reader.proofs.stream.stream_fails.Tie as tie
