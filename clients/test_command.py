@@ -23,8 +23,8 @@ NOBODY = 65534
 TIMEOUT = 120
 
 OPTIONS = """--plane --csv --width --height --stride --format --palette --sample-palette --icc --linked-icc --no-embed-icc
---rendering-intent --bitfields --calibrated-rgb --top-down --minimal-palette --no-rle --more-follows --out --help
---version""".split()
+--rendering-intent --bitfields --calibrated-rgb --top-down --minimal-palette --no-rle --more-follows --out --read
+--help --version""".split()
 FORMATS = "Rgba Rgb24 Bgra Bgr24 Rgb555 Rgb565 Pal8 Indexed4 Indexed2 Indexed1".split()
 MOST = {"Pal8": 255, "Indexed4": 15, "Indexed2": 3, "Indexed1": 1}
 
@@ -262,6 +262,8 @@ class Words(Case):
              "and three gammas from 0 to 4294967295"),
             (["--top-down=no"], "--top-down takes no value, and is given 'no'"),
             (["--", "x"], "-- is followed by 'x': the command takes options only"),
+            (["--csv", "back.csv", "--read"], "--read has no value (--help lists the options)"),
+            (["--read=", "--csv", "back.csv"], "--read has no value (--help lists the options)"),
         ):
             with self.subTest(words):
                 self.unchanged(2, text, *words)
@@ -286,6 +288,7 @@ class Words(Case):
             (plane + size + palettes, "--palette and --sample-palette are both given"),
             (plane + size, "--out FILE is missing"),
             (["--csv", "sheet"], "--out FILE is missing"),
+            (["--read", "five"], "--csv FILE is missing"),
         ):
             with self.subTest(words):
                 self.unchanged(2, text, *words)
@@ -322,8 +325,8 @@ class Words(Case):
         with open(os.path.join(HERE, "../crates/command/specs/Runs.antt"), encoding="utf-8") as file:
             listed = re.search(r"^causes =\n(.*?)\[\]\)", file.read(), re.MULTILINE | re.DOTALL).group(1)
         causes = dict(enumerate(re.findall(r'"(.*)"', listed)))
-        self.assertEqual({number: causes[number] for number in range(1, 17)}, {number: REFUSALS[number] for number in range(1, 17)})
-        self.assertEqual(sorted(REFUSALS), list(range(17)) + [255])
+        self.assertEqual({number: causes[number] for number in range(1, 20)}, {number: REFUSALS[number] for number in range(1, 20)})
+        self.assertEqual(sorted(REFUSALS), list(range(20)) + [255])
 
     def test_a_shell_sees_a_refusal(self):
         for words, status, printed in (("", 1, b""), ("--palette palette", 0, b"yes\n"), ("--palette none", 2, b"")):
@@ -899,6 +902,153 @@ class Saving(Case):
         with self.subTest("ignored, as under nohup"):
             self.write("out.bmp", b"an older file")
             self.assertFalse(self.ended(signal.SIGHUP, lambda: signal.signal(signal.SIGHUP, signal.SIG_IGN)))
+
+
+class ReadingBack(Case):
+    """bmp_writer --read FILE --csv OUT."""
+    def sheet_of(self, name, width, height, depth, **how):
+        """The text of the file's sheet; the line says the size, the depth and the text's bytes."""
+        ran = self.run_program("--read", name, "--csv", "back.csv", **how)
+        text = self.read("back.csv").decode()
+        self.assertEqual(ran, Ran(0, f"{width} x {height}, {depth} bits, sheet of {len(text)} bytes\n".encode(), []))
+        return text
+
+    def test_an_index_a_cell_and_back(self):
+        for (name, most), depth in zip(MOST.items(), (8, 4, 2, 1)):
+            for words in ((), ("--no-rle",), ("--top-down",), ("--minimal-palette",), ("--icc", "profile")):
+                for width in (1, 2, 7, 8, 9, 33):
+                    with self.subTest(name=name, words=words, width=width):
+                        rows = [[most & cell >> 1 for cell in noise_of(width)], [1] * width, [most] * width, [0] * width]
+                        self.write("sheet.csv", sheet(rows))
+                        self.done("--csv", "sheet.csv", "--sample-palette", "--format", name, *words)
+                        self.assertEqual(self.sheet_of("out.bmp", width, 4, depth), sheet(rows))
+
+    def test_streams_and_back(self):
+        rows = [[x // 9 % 16 for x in range(301)], [5] * 301, [x % 16 for x in range(301)], list(range(16)) * 18 + [3] * 13]
+        self.write("sheet.csv", sheet(rows))
+        for name, depth, compression in (("Pal8", 8, 1), ("Indexed4", 4, 2)):
+            with self.subTest(name):
+                content = self.done("--csv", "sheet.csv", "--sample-palette", "--format", name)
+                self.assertEqual(header(content)["biCompression"], compression)
+                self.assertEqual(self.sheet_of("out.bmp", 301, 4, depth), sheet(rows))
+
+    def test_a_sheet_that_was_read_is_written_again(self):
+        self.write("sheet.csv", sheet([[255, 0, 7, 7, 7, 7], [1, 2, 3, 4, 5, 6]], ";", "\r\n"))
+        first = self.done("--csv", "sheet.csv", "--sample-palette")
+        self.sheet_of("out.bmp", 6, 2, 8)
+        self.assertEqual(self.done("--csv", "back.csv", "--sample-palette", out="again.bmp"), first)
+
+    def test_four_columns_a_cell(self):
+        cells = [(0, 1, 2, 3), (255, 254, 253, 252), (128, 64, 32, 16), (9, 99, 199, 255), (16, 8, 4, 2), (1, 10, 100, 0)]
+        self.write("rgba", bytes(sample for cell in cells for sample in cell))
+        self.write("rgb", bytes(sample for cell in cells for sample in cell[:3]))
+        self.write("words", b"".join(little(value, 2) for value in (0x7FFF, 0, 0x1234, 0x001F, 0x03E0, 0x7C00)))
+        masks = "0x00FF0000,0x0000FF00,0x000000FF"
+        for plane, name, depth, words, shown in (
+            ("rgba", "Rgba", 32, (), [cell[:3] + (0,) for cell in cells]),
+            ("rgb", "Rgb24", 24, (), [cell[:3] + (0,) for cell in cells]),
+            ("rgb", "Bgr24", 24, ("--top-down",), [cell[2::-1] + (0,) for cell in cells]),
+            ("words", "Rgb555", 16, (), [(31, 31, 31, 0), (0,) * 4, (4, 17, 20, 0), (0, 0, 31, 0), (0, 31, 0, 0), (31, 0, 0, 0)]),
+            ("rgba", "Rgba", 32, ("--bitfields", f"32,{masks},0"), [cell[:3] + (0,) for cell in cells]),
+            ("rgba", "Rgba", 32, ("--bitfields", f"32,{masks},0xFF000000"), cells),
+            ("rgba", "Rgba", 16, ("--bitfields", "16,0x0F00,0x00F0,0x000F,0xF000"), [tuple(v >> 4 for v in cell) for cell in cells]),
+            ("rgba", "Rgba", 32, ("--bitfields", "32,0xFFFFFFFF,0,0,0"), [(cell[0] << 24 | cell[0], 0, 0, 0) for cell in cells]),
+        ):
+            with self.subTest(name=name, words=words):
+                self.done("--plane", plane, "--width", "3", "--height", "2", "--format", name, *words)
+                rows = [[value for cell in row for value in cell] for row in (shown[:3], shown[3:])]
+                self.assertEqual(self.sheet_of("out.bmp", 3, 2, depth), sheet(rows))
+
+    def test_the_file_of_the_specification(self):
+        self.write("five.bmp", FIVE)
+        self.assertEqual(self.sheet_of("five.bmp", 5, 1, 8), "7,7,7,7,7\n")
+        # Nothing behind the last cell of a stream is read.
+        self.write("five.bmp", FIVE[:60])
+        self.assertEqual(self.sheet_of("five.bmp", 5, 1, 8), "7,7,7,7,7\n")
+
+    def test_a_large_file(self):
+        side, noise = 1500, noise_of(1500 * 1500)
+        self.write("large.bmp", stored(noise, side, side, self.palette))
+        rows = (noise[y * side:(y + 1) * side] for y in range(side))
+        self.assertTrue(self.sheet_of("large.bmp", side, side, 8) == sheet(rows))
+
+    def test_refusals(self):
+        def changed(at, new, file=FIVE):
+            return file[:at] + new + file[at + len(new):]
+        for number, content in (
+            (17, changed(0, b"BA")),
+            (17, changed(14, little(12))),
+            (17, changed(18, little(0))),
+            (17, changed(28, little(3, 2))),
+            (17, changed(30, little(4))),
+            (17, b"MZ"),
+            (18, b""),
+            (18, FIVE[:53]),
+            (18, FIVE[:57]),
+            (18, self.file[:-1]),
+            (19, FIVE[:58]),
+            (19, FIVE[:59]),
+            (19, changed(58, b"\x06\x07")),
+            (19, changed(58, b"\x04\x07")),
+            (19, changed(58, b"\x00\x02")),
+            (19, changed(58, b"\x00\x00")),
+        ):
+            for older in (False, True):
+                with self.subTest(number=number, content=content[:70], older=older):
+                    self.write("in.bmp", content)
+                    if older:
+                        self.write("back.csv", b"an older file")
+                    self.unchanged(1, f"refused, {number}: {REFUSALS[number]}", "--read", "in.bmp", "--csv", "back.csv")
+                    self.assertEqual("back.csv" in self.names(), older)
+                    if older:
+                        os.remove(self.path("back.csv"))
+
+    def test_what_does_not_go_with_it(self):
+        self.write("in.bmp", FIVE)
+        values = {"--width": "8", "--height": "3", "--stride": "8", "--format": "Pal8", "--rendering-intent": "4",
+                  "--bitfields": "16,0,0,0,0", "--calibrated-rgb": ",".join("0" * 12)}
+        alone = {"--top-down", "--minimal-palette", "--no-rle", "--no-embed-icc", "--more-follows", "--sample-palette"}
+        for option in set(OPTIONS) - {"--read", "--csv", "--help", "--version"}:
+            with self.subTest(option):
+                words = (option,) if option in alone else (option, values.get(option, "plane"))
+                for rest in (("--csv", "back.csv"), ()):
+                    self.unchanged(2, "--read goes with --csv FILE alone", "--read", "in.bmp", *words, *rest)
+        self.unchanged(2, "--csv FILE is missing", "--read", "in.bmp")
+        self.assertEqual(self.run_program("--read", "in.bmp", "--version").out, b"bmp_writer 1.0.0\n")
+
+    def test_help(self):
+        text = self.run_program("--help").out.decode()
+        self.assertIn("\n       bmp_writer --read FILE --csv OUT\n", text)
+        self.assertRegex(text, r"\n  --read FILE  +\S")
+
+    def test_standard_files(self):
+        self.write("in.bmp", FIVE)
+        line = b"bmp_writer: 5 x 1, 8 bits, sheet of 10 bytes\n"
+        self.assertEqual(self.run_program("--read", "in.bmp", "--csv", "-"), Ran(0, b"7,7,7,7,7\n", [line]))
+        self.assertEqual(self.run_program("--read=-", "--csv=-", stdin=FIVE), Ran(0, b"7,7,7,7,7\n", [line]))
+        self.assertEqual(self.sheet_of("-", 5, 1, 8, stdin=FIVE), "7,7,7,7,7\n")
+        self.refused(18, "--read", "-", "--csv", "-")
+
+    def test_files_that_cannot_be_read_or_written(self):
+        self.write("in.bmp", FIVE)
+        os.mkdir(self.path("folder"))
+        self.unchanged(2, "none.bmp: No such file or directory", "--read", "none.bmp", "--csv", "back.csv")
+        self.unchanged(2, "none/back.csv: No such file or directory", "--read", "in.bmp", "--csv", "none/back.csv")
+        self.unchanged(2, "folder: is no regular file", "--read", "in.bmp", "--csv", "folder")
+
+    def test_the_sheet_replaces_an_older_file(self):
+        self.write("in.bmp", FIVE)
+        self.write("older.csv", b"an older and longer file", 0o640)
+        os.symlink("older.csv", self.path("back.csv"))
+        self.assertEqual(self.sheet_of("in.bmp", 5, 1, 8), "7,7,7,7,7\n")
+        self.assertTrue(os.path.islink(self.path("back.csv")))
+        self.assertEqual(stat.S_IMODE(os.stat(self.path("older.csv")).st_mode), 0o640)
+        self.assertEqual(self.names(), ["back.csv", "empty", "five", "in.bmp", "older.csv", "palette", "plane", "profile"])
+
+    def test_more_cells_than_memory_holds(self):
+        """A stream of four bytes in a head that tells of 2^62 cells."""
+        self.write("in.bmp", FIVE[:18] + little(0x7FFFFFFF) * 2 + FIVE[26:])
+        self.unchanged(2, "the file's cells: not enough memory", "--read", "in.bmp", "--csv", "back.csv")
 
 
 class StandardOutput(Case):

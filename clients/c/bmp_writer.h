@@ -1,8 +1,10 @@
-/* A BMP writer whose every byte is proved. Link with libcapi.a (rt staticlib capi), or with libbmp_writer.so
- * (clients/build.sh, which also writes a file for pkg-config). The header is for C99 and C++98 and later.
+/* A BMP writer whose every byte is proved, and a reader of its files. Link with libcapi.a (rt staticlib capi), or with
+ * libbmp_writer.so (clients/build.sh, which also writes a file for pkg-config). The header is for C99 and C++98 and
+ * later.
  *
- * The two calls read a picture from memory that the caller lends and never allocate. Every pointer goes with its
- * length in bytes; NULL with length 0 is allowed. `out` overlaps no input. A bool is 0 or 1. */
+ * The calls work in memory that the caller lends and never allocate. Every pointer goes with its length in bytes, but
+ * `cells` with its count of numbers; NULL with length 0 is allowed. `out` overlaps no input, and `head`, `table` and
+ * `cells` overlap neither the file nor each other. A bool is 0 or 1. */
 #ifndef BMP_WRITER_H
 #define BMP_WRITER_H
 
@@ -64,8 +66,13 @@ enum bmp_refusal {
     BMP_PLANE_TOO_SHORT = 12,    /* plane length below stride x height */
     BMP_STRIDE_TOO_SHORT = 13,   /* stride below width x bytes of a pixel */
     BMP_FILE_TOO_LARGE = 14,     /* no RLE planned, and the file is over 4,294,967,295 bytes */
-    BMP_BUFFER_TOO_SHORT = 15,   /* writing: offset past the end, or fewer than bound bytes after it */
+    BMP_BUFFER_TOO_SHORT = 15,   /* writing: offset past the end, or fewer than bound bytes after it; reading: a
+                                  * lent buffer is shorter than what goes there */
     BMP_STREAM_OVER_BUDGET = 16, /* writing: RLE planned, plain file too large, stream not under budget */
+    BMP_NEVER_WRITTEN = 17,      /* reading: mark, header size, width, height, depth, compression, colour count or
+                                  * masks that are never written */
+    BMP_OUTSIDE_FILE = 18,       /* reading: a byte of header, masks, table, plain rows or profile outside the file */
+    BMP_STREAM_FAULT = 19,       /* reading: a step over a row's end, a row ended early, a delta code, missing cells */
     BMP_UNKNOWN_FORMAT = 255     /* `format` is none of those listed; this interface's own number */
 };
 
@@ -119,6 +126,27 @@ typedef struct {
     uint32_t format;  /* enum bmp_written_format; 0 with a refusal and from the size query */
 } bmp_answer;
 
+/* 32 bytes. With a refusal every other field is 0, here and below. */
+typedef struct {
+    uint64_t profile_at;    /* where the profile begins in the file; 0 where it is empty or there is none */
+    uint64_t profile_bytes; /* its bytes, which are a part of the file and are not copied */
+    uint32_t refusal;       /* enum bmp_refusal */
+    uint32_t width;         /* cells in a row */
+    uint32_t height;        /* rows, also of a file whose height is negative */
+    uint32_t depth;         /* bits of a stored cell: 1, 2, 4, 8, 16, 24 or 32 */
+} bmp_reading;
+
+/* 40 bytes. */
+typedef struct {
+    uint64_t head_bytes;   /* the bytes that `head` must have: 54, 122 or 138 */
+    uint64_t table_bytes;  /* the bytes that `table` must have, at most 1024; 0 above depth 8 */
+    uint64_t cell_numbers; /* the numbers that `cells` must have; a stream's few bytes can ask for nearly 2^62 */
+    uint32_t refusal;      /* enum bmp_refusal */
+    uint32_t width;        /* the rest as above */
+    uint32_t height;
+    uint32_t depth;
+} bmp_reading_sizes;
+
 /* The places of all fields and the sizes. A compiler that lays the structs out otherwise refuses this header; in
  * languages before static assertions it does so because an array of a negative size is an error. */
 #if defined(__cplusplus) && __cplusplus >= 201103L
@@ -154,6 +182,21 @@ BMP_PLACE(bmp_answer, bytes, 0);
 BMP_PLACE(bmp_answer, refusal, 8);
 BMP_PLACE(bmp_answer, format, 12);
 BMP_BYTES(bmp_answer, 16);
+BMP_PLACE(bmp_reading, profile_at, 0);
+BMP_PLACE(bmp_reading, profile_bytes, 8);
+BMP_PLACE(bmp_reading, refusal, 16);
+BMP_PLACE(bmp_reading, width, 20);
+BMP_PLACE(bmp_reading, height, 24);
+BMP_PLACE(bmp_reading, depth, 28);
+BMP_BYTES(bmp_reading, 32);
+BMP_PLACE(bmp_reading_sizes, head_bytes, 0);
+BMP_PLACE(bmp_reading_sizes, table_bytes, 8);
+BMP_PLACE(bmp_reading_sizes, cell_numbers, 16);
+BMP_PLACE(bmp_reading_sizes, refusal, 24);
+BMP_PLACE(bmp_reading_sizes, width, 28);
+BMP_PLACE(bmp_reading_sizes, height, 32);
+BMP_PLACE(bmp_reading_sizes, depth, 36);
+BMP_BYTES(bmp_reading_sizes, 40);
 #undef BMP_BYTES
 #undef BMP_PLACE
 #undef BMP_FACT
@@ -169,6 +212,17 @@ bmp_answer bmp_encode_into(bmp_source source, bmp_options options, const uint8_t
 bmp_answer bmp_encoded_size_bound(bmp_source source, bmp_options options, const uint8_t *plane, size_t plane_len,
                                   const uint8_t *palette, size_t palette_len, const uint8_t *icc, size_t icc_len,
                                   const uint8_t *linked_icc, size_t linked_icc_len);
+
+/* Reads a file back. `head` gets the first 14 bytes and the header; `table` four bytes an entry, as filed: blue, green,
+ * red, 0; `cells` the cells row by row from the top: up to depth 8 an index, above it four numbers, red, green, blue
+ * and alpha, as stored. Alpha is 0 but for compression 6, and a channel whose mask is 0 is 0. Values past those filled
+ * stay, and nothing after the last cell of a stream is read. A refusal is the first that applies of 17, 18, 15 and 19,
+ * in this order, and then no buffer has changed. */
+bmp_reading bmp_read(const uint8_t *file, size_t file_len, uint8_t *head, size_t head_len, uint8_t *table,
+                     size_t table_len, uint32_t *cells, size_t cells_len);
+
+/* How much `bmp_read` fills from the same file. A refusal is 17 or 18; the stream is not looked at. */
+bmp_reading_sizes bmp_read_sizes(const uint8_t *file, size_t file_len);
 
 /* 0, or 6 to 10. */
 uint32_t bmp_check_masks(uint16_t bpp, uint32_t red, uint32_t green, uint32_t blue, uint32_t alpha);
@@ -193,6 +247,9 @@ static inline const char *bmp_refusal_text(uint32_t number) {
     case BMP_FILE_TOO_LARGE: return "the file would be over 4294967295 bytes";
     case BMP_BUFFER_TOO_SHORT: return "the buffer is shorter than the file's bound";
     case BMP_STREAM_OVER_BUDGET: return "neither the stream nor the plain file fits in 4294967295 bytes";
+    case BMP_NEVER_WRITTEN: return "the head is one that the writer never writes";
+    case BMP_OUTSIDE_FILE: return "a byte of header, masks, table, rows or profile lies outside the file";
+    case BMP_STREAM_FAULT: return "the stream steps over a row's end, ends too early or uses a delta code";
     case BMP_UNKNOWN_FORMAT: return "the format's number is none of those listed";
     default: return "unknown refusal number";
     }

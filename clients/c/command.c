@@ -35,6 +35,7 @@ typedef struct {
 } memory;
 
 static memory words, name, plane, palette, icc, linked_icc, cells, out;
+static memory bmp, head, table; /* a file that is read, and its parts */
 static memory line, text; /* of a message: PREFIX with the text behind it, and the text alone */
 
 static bool lend(memory *lent, uint64_t n) {
@@ -249,12 +250,30 @@ static bmp_command_answer run(void) {
 }
 
 /* Writes the file, and prints the line that says so; on standard error where standard output is the file. */
-static int deliver(bmp_command_answer answer) {
-    const char *named = name_of(BMP_COMMAND_OUT);
+static int deliver(bmp_command_answer answer, uint32_t file) {
+    const char *named = name_of(file);
     bool standard = is_standard(named);
     int status = standard ? print(out.bytes, answer.bytes) : save(named == NULL ? "" : named, (size_t)answer.bytes);
     if (status != BMP_COMMAND_DONE) return status;
     return standard ? say(answer.text, status) : print(text.bytes, answer.text);
+}
+
+static int finish(bmp_command_answer answer, uint32_t file) {
+    return answer.status == BMP_COMMAND_DONE ? deliver(answer, file) : say(answer.text, (int)answer.status);
+}
+
+/* Reads a BMP file and writes its cells as a sheet. A stream of few bytes can tell of more cells than memory holds. */
+static int read_bmp(void) {
+    if (!read_file(BMP_COMMAND_READ, &bmp)) return BMP_COMMAND_NOT_UNDERSTOOD;
+    bmp_command_sizes wants = bmp_command_read_sizes(bmp.bytes, bmp.len);
+    uint64_t cell_bytes = wants.cell_numbers < UINT64_MAX / 4 ? 4 * wants.cell_numbers : UINT64_MAX;
+    if (!lend(&head, wants.head_bytes) || !lend(&table, wants.table_bytes) || !lend(&cells, cell_bytes) ||
+        !lend(&out, wants.out_bytes))
+        return failed("the file's cells");
+    return finish(bmp_command_read(words.bytes, words.len, bmp.bytes, bmp.len, head.bytes, head.len, table.bytes,
+                                   table.len, (uint32_t *)(void *)cells.bytes, cells.len / 4, out.bytes, out.len,
+                                   text.bytes, text.len),
+                  BMP_COMMAND_SHEET);
 }
 
 int main(int argc, char **argv) {
@@ -266,6 +285,7 @@ int main(int argc, char **argv) {
     bmp_command_answer answer = bmp_command_check(words.bytes, words.len, text.bytes, text.len);
     if (answer.status == BMP_COMMAND_DONE) return print(text.bytes, answer.text);
     if (answer.status != BMP_COMMAND_WANTS_FILES) return say(answer.text, (int)answer.status);
+    if (name_of(BMP_COMMAND_READ) != NULL) return read_bmp();
     if (!read_files()) return BMP_COMMAND_NOT_UNDERSTOOD;
     /* A last line without its end can have a cell more than bytes. */
     bool has_sheet = name_of(BMP_COMMAND_SHEET) != NULL;
@@ -275,5 +295,5 @@ int main(int argc, char **argv) {
         if (!lend(&out, answer.bound)) return failed("the file to write");
         answer = run();
     }
-    return answer.status == BMP_COMMAND_DONE ? deliver(answer) : say(answer.text, (int)answer.status);
+    return finish(answer, BMP_COMMAND_OUT);
 }

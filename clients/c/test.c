@@ -1,5 +1,5 @@
-/* Tests of the C interface: run by clients/test.sh. M12's file, which mask is which, the texts, and the uses of the
- * defaults. The header's layout is checked by compiling it. */
+/* Tests of the C interface: run by clients/test.sh. M12's file, which mask is which, the texts, the uses of the
+ * defaults, and files read back. The header's layout is checked by compiling it. */
 #include "bmp_writer.h"
 #undef NDEBUG /* the assertions are the test */
 #include <assert.h>
@@ -47,7 +47,7 @@ static void masks(void) {
 static void texts(void) {
     const char *unknown = "unknown refusal number";
     for (uint32_t number = 0; number < 300; number++) {
-        bool listed = number <= 16 || number == 255;
+        bool listed = number <= 19 || number == 255;
         assert((strcmp(bmp_refusal_text(number), unknown) != 0) == listed);
         for (uint32_t other = 0; other < number && listed; other++)
             assert(strcmp(bmp_refusal_text(number), bmp_refusal_text(other)) != 0);
@@ -89,11 +89,158 @@ static void defaults(void) {
     assert(is_default(&cleared));
 }
 
+/* Three lent buffers, each between two values that are not lent. */
+typedef struct {
+    uint8_t head[1 + 138 + 1], table[1 + 1024 + 1];
+    uint32_t cells[1 + 16 + 1];
+} lent;
+
+static lent now, was;
+
+static bmp_reading read_back(const uint8_t *bytes, size_t len, size_t head_len, size_t table_len, size_t cells_len) {
+    memset(&now, 0xAA, sizeof now);
+    memset(&was, 0xAA, sizeof was);
+    return bmp_read(bytes, len, now.head + 1, head_len, now.table + 1, table_len, now.cells + 1, cells_len);
+}
+
+/* The number is answered alone, and no value in the buffers or beside them has changed. */
+static void refused(uint32_t number, const uint8_t *bytes, size_t len, size_t head_len, size_t table_len,
+                    size_t cells_len) {
+    bmp_reading answer = read_back(bytes, len, head_len, table_len, cells_len);
+    assert(answer.refusal == number && answer.profile_at == 0 && answer.profile_bytes == 0);
+    assert(answer.width == 0 && answer.height == 0 && answer.depth == 0);
+    assert(memcmp(&now, &was, sizeof now) == 0);
+}
+
+/* The file is read into buffers of the sizes answered, and into longer ones: what is filled is right, all else stays. A
+ * buffer that lacks one value is refused. */
+static bmp_reading accepted(const uint8_t *bytes, size_t len, const uint32_t *cells) {
+    bmp_reading_sizes sizes = bmp_read_sizes(bytes, len);
+    const size_t head_len = sizes.head_bytes, table_len = sizes.table_bytes, cells_len = sizes.cell_numbers;
+    bmp_reading answer = { 0, 0, BMP_OK, 0, 0, 0 };
+    for (int longer = 0; longer < 2; longer++) {
+        answer = longer ? read_back(bytes, len, 138, 1024, 16) : read_back(bytes, len, head_len, table_len, cells_len);
+        assert(sizes.refusal == BMP_OK && answer.refusal == BMP_OK);
+        assert(sizes.width == answer.width && sizes.height == answer.height && sizes.depth == answer.depth);
+        memcpy(was.head + 1, bytes, head_len);
+        memcpy(was.table + 1, bytes + head_len, table_len);
+        memcpy(was.cells + 1, cells, cells_len * sizeof *cells);
+        assert(memcmp(&now, &was, sizeof now) == 0);
+    }
+    refused(BMP_BUFFER_TOO_SHORT, bytes, len, head_len - 1, table_len, cells_len);
+    if (table_len > 0) refused(BMP_BUFFER_TOO_SHORT, bytes, len, head_len, table_len - 1, cells_len);
+    refused(BMP_BUFFER_TOO_SHORT, bytes, len, head_len, table_len, cells_len - 1);
+    return answer;
+}
+
+/* Streams; plain rows from the top with a profile behind them, or an empty one; masks, of which that of blue is 0. */
+static void reading(void) {
+    assert(sizeof(bmp_reading) == 32 && sizeof(bmp_reading_sizes) == 40);
+    const uint32_t sevens[5] = { 7, 7, 7, 7, 7 };
+    bmp_reading answer = accepted(m12, sizeof m12, sevens);
+    assert(answer.width == 5 && answer.height == 1 && answer.depth == 8);
+    assert(answer.profile_at == 0 && answer.profile_bytes == 0);
+    bmp_reading_sizes sizes = bmp_read_sizes(m12, sizeof m12);
+    assert(sizes.head_bytes == 54 && sizes.table_bytes == 4 && sizes.cell_numbers == 5);
+
+    /* As RLE4; the head's last field and the table's entry come back as they are filed. */
+    const uint32_t in_turn[5] = { 1, 14, 1, 14, 1 };
+    uint8_t bytes[sizeof m12];
+    memcpy(bytes, m12, sizeof m12);
+    memset(bytes + 50, 0x5A, 8);
+    bytes[28] = 4;
+    bytes[30] = 2;
+    bytes[59] = 0x1E;
+    assert(accepted(bytes, sizeof bytes, in_turn).depth == 4);
+
+    const uint8_t plane[12] = { 1, 2, 3, 4, 5, 6, 7, 8, 9, 250, 251, 252 }, icc[3] = { 'i', 'c', 'c' };
+    const uint32_t colours[16] = { 1, 2, 3, 0, 4, 5, 6, 0, 7, 8, 9, 0, 250, 251, 252, 0 };
+    bmp_source source = { BMP_RGB24, 2, 2, false, true, false, 6 };
+    bmp_options options = BMP_OPTIONS_DEFAULT;
+    options.top_down = true;
+    uint8_t out[160];
+    bmp_answer written =
+        bmp_encode_into(source, options, plane, sizeof plane, NULL, 0, icc, sizeof icc, NULL, 0, out, sizeof out, 0);
+    assert(written.refusal == BMP_OK && written.bytes == 157);
+    answer = accepted(out, 157, colours);
+    assert(answer.width == 2 && answer.height == 2 && answer.depth == 24);
+    assert(answer.profile_at == 154 && answer.profile_bytes == 3 && memcmp(out + 154, icc, 3) == 0);
+    answer = bmp_read(out, 157, now.head, 138, NULL, 0, now.cells, 16);
+    assert(answer.refusal == BMP_OK && answer.profile_bytes == 3);
+    for (size_t len = 0; len < 157; len++) refused(BMP_OUTSIDE_FILE, out, len, 138, 1024, 16);
+    written = bmp_encode_into(source, options, plane, sizeof plane, NULL, 0, NULL, 0, NULL, 0, out, sizeof out, 0);
+    assert(written.refusal == BMP_OK && written.bytes == 154);
+    answer = accepted(out, 154, colours);
+    assert(answer.profile_at == 0 && answer.profile_bytes == 0);
+    refused(BMP_OUTSIDE_FILE, out, 153, 138, 1024, 16);
+
+    const uint8_t pixel[4] = { 0x12, 0x34, 0x56, 0x78 };
+    const uint32_t halves[4] = { 1, 3, 0, 7 };
+    bmp_source one = { BMP_RGBA, 1, 1, false, false, false, 4 };
+    bmp_options masked = BMP_OPTIONS_DEFAULT;
+    masked.has_bitfields = true;
+    masked.bitfields_bpp = 16;
+    masked.bitfields_masks[0] = 0xF000;
+    masked.bitfields_masks[1] = 0xF00;
+    masked.bitfields_masks[3] = 0xF;
+    written = bmp_encode_into(one, masked, pixel, sizeof pixel, NULL, 0, NULL, 0, NULL, 0, out, sizeof out, 0);
+    assert(written.refusal == BMP_OK && written.format == BMP_WRITTEN_ALPHA_BITFIELDS);
+    answer = accepted(out, written.bytes, halves);
+    assert(answer.width == 1 && answer.height == 1 && answer.depth == 16 && answer.profile_bytes == 0);
+}
+
+/* The numbers of reading and their order. Nothing after the last cell is read, so that M12's file may end there. */
+static void reading_refused(void) {
+    const uint8_t faults[5][6] = {
+        { 6, 7, 0, 1 }, { 4, 7, 0, 1 }, { 0, 0, 5, 7 }, { 0, 2, 0, 0, 5, 7 }, { 0, 2, 7, 7, 3, 7 }
+    };
+    uint8_t bytes[sizeof m12 + 2];
+    memcpy(bytes, m12, sizeof m12);
+    for (int k = 0; k < 5; k++) {
+        memcpy(bytes + 58, faults[k], 6);
+        assert(bmp_read_sizes(bytes, sizeof bytes).refusal == BMP_OK);
+        refused(BMP_STREAM_FAULT, bytes, sizeof bytes, 54, 4, 5);
+        refused(BMP_BUFFER_TOO_SHORT, bytes, sizeof bytes, 54, 4, 4);
+    }
+    for (size_t len = 0; len <= sizeof m12; len++) {
+        uint32_t number = len < 58 ? BMP_OUTSIDE_FILE : len < 60 ? BMP_STREAM_FAULT : BMP_OK;
+        if (number != BMP_OK) refused(number, m12, len, 138, 1024, 16);
+        if (number == BMP_OUTSIDE_FILE) refused(number, m12, len, 0, 0, 0);
+        assert(read_back(m12, len, 54, 4, 5).refusal == number);
+        assert(bmp_read_sizes(m12, len).refusal == (len < 58 ? BMP_OUTSIDE_FILE : BMP_OK));
+    }
+    bytes[1] = 'N';
+    refused(BMP_NEVER_WRITTEN, bytes, sizeof bytes, 138, 1024, 16);
+    refused(BMP_NEVER_WRITTEN, bytes, 2, 0, 0, 0);
+    bmp_reading_sizes sizes = bmp_read_sizes(bytes, sizeof bytes);
+    assert(sizes.refusal == BMP_NEVER_WRITTEN && sizes.head_bytes == 0 && sizes.table_bytes == 0);
+    assert(sizes.cell_numbers == 0 && sizes.width == 0 && sizes.height == 0 && sizes.depth == 0);
+
+    assert(bmp_read(NULL, 0, NULL, 0, NULL, 0, NULL, 0).refusal == BMP_OUTSIDE_FILE);
+    assert(bmp_read_sizes(NULL, 0).refusal == BMP_OUTSIDE_FILE);
+    assert(bmp_read(m12, sizeof m12, NULL, 0, NULL, 0, NULL, 0).refusal == BMP_BUFFER_TOO_SHORT);
+}
+
+/* A stream's head of the largest width and height: the product does not wrap, and no buffer is long enough. */
+static void huge(void) {
+    const uint8_t most[8] = { 0xFF, 0xFF, 0xFF, 0x7F, 0xFF, 0xFF, 0xFF, 0x7F };
+    uint8_t bytes[sizeof m12];
+    memcpy(bytes, m12, sizeof m12);
+    memcpy(bytes + 18, most, sizeof most);
+    bmp_reading_sizes sizes = bmp_read_sizes(bytes, sizeof bytes);
+    assert(sizes.refusal == BMP_OK && sizes.cell_numbers == (uint64_t)INT32_MAX * INT32_MAX);
+    assert(sizes.width == INT32_MAX && sizes.height == INT32_MAX && sizes.depth == 8);
+    refused(BMP_BUFFER_TOO_SHORT, bytes, sizeof bytes, 138, 1024, 16);
+}
+
 int main(void) {
     file();
     masks();
     texts();
     format();
     defaults();
+    reading();
+    reading_refused();
+    huge();
     return 0;
 }

@@ -1,4 +1,4 @@
-// The header in C++: the uses of the defaults, the texts, and a call. clients/test.sh compiles and runs it.
+// The header in C++: the uses of the defaults, the texts, and the calls. clients/test.sh compiles and runs it.
 #include "bmp_writer.h"
 #undef NDEBUG // the assertions are the test
 #include <cassert>
@@ -17,6 +17,42 @@ static bool is_default(const bmp_options &options) {
     return std::memcmp(&options, &at_start, sizeof at_start) == 0;
 }
 
+// A file is written and read back. Beside what is filled, and on every refusal, all values stay.
+static void reading() {
+    assert(sizeof(bmp_reading) == 32 && sizeof(bmp_reading_sizes) == 40);
+    const bmp_source source = { BMP_PAL8, 5, 1, true, false, false, 5 };
+    bmp_options options = BMP_OPTIONS_DEFAULT;
+    options.minimal_palette = true;
+    const uint8_t plane[5] = { 7, 7, 7, 7, 7 };
+    uint8_t file[78];
+    const bmp_answer written = bmp_encode_into(source, options, plane, 5, NULL, 0, NULL, 0, NULL, 0, file, 78, 0);
+    assert(written.bytes == 62 && written.format == BMP_WRITTEN_RLE8);
+    const bmp_reading_sizes sizes = bmp_read_sizes(file, 62);
+    assert(sizes.refusal == BMP_OK && sizes.head_bytes == 54 && sizes.table_bytes == 4 && sizes.cell_numbers == 5);
+
+    uint8_t head[56], table[6], was[56];
+    uint32_t cells[7] = { 9, 9, 9, 9, 9, 9, 9 };
+    std::memset(head, 0xAA, sizeof head);
+    std::memset(table, 0xAA, sizeof table);
+    std::memset(was, 0xAA, sizeof was);
+    assert(bmp_read(file, 62, head + 1, 54, table + 1, 4, cells + 1, 4).refusal == BMP_BUFFER_TOO_SHORT);
+    assert(bmp_read(file, 57, head + 1, 54, table + 1, 4, cells + 1, 5).refusal == BMP_OUTSIDE_FILE);
+    file[58] = 4;
+    assert(bmp_read(file, 62, head + 1, 54, table + 1, 4, cells + 1, 5).refusal == BMP_STREAM_FAULT);
+    file[58] = 5;
+    assert(bmp_read(file + 1, 61, head + 1, 54, table + 1, 4, cells + 1, 5).refusal == BMP_NEVER_WRITTEN);
+    assert(bmp_read(NULL, 0, NULL, 0, NULL, 0, NULL, 0).refusal == BMP_OUTSIDE_FILE);
+    assert(std::memcmp(head, was, sizeof head) == 0 && std::memcmp(table, was, sizeof table) == 0);
+    for (int k = 0; k < 7; k++) assert(cells[k] == 9);
+
+    const bmp_reading answer = bmp_read(file, 62, head + 1, 54, table + 1, 4, cells + 1, 5);
+    assert(answer.refusal == BMP_OK && answer.width == 5 && answer.height == 1 && answer.depth == 8);
+    assert(answer.profile_at == 0 && answer.profile_bytes == 0);
+    assert(head[0] == 0xAA && std::memcmp(head + 1, file, 54) == 0 && head[55] == 0xAA);
+    assert(table[0] == 0xAA && std::memcmp(table + 1, file + 54, 4) == 0 && table[5] == 0xAA);
+    for (int k = 0; k < 7; k++) assert(cells[k] == (k == 0 || k == 6 ? 9u : 7u));
+}
+
 int main() {
     bmp_options options = BMP_OPTIONS_DEFAULT;
     assert(is_default(options) && is_default(several[0]) && is_default(several[1]));
@@ -27,9 +63,10 @@ int main() {
     assert(is_default(options));
 
     assert(std::strcmp(bmp_refusal_text(BMP_ZERO_DIMENSION), "width or height is 0") == 0);
-    assert(std::strcmp(bmp_refusal_text(17), "unknown refusal number") == 0);
+    assert(std::strcmp(bmp_refusal_text(20), "unknown refusal number") == 0);
 
     const bmp_source nothing = { BMP_RGB24, 0, 1, false, false, false, 0 };
     assert(bmp_encoded_size_bound(nothing, BMP_OPTIONS_DEFAULT, NULL, 0, NULL, 0, NULL, 0, NULL, 0).refusal == BMP_ZERO_DIMENSION);
+    reading();
     return 0;
 }

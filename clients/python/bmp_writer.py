@@ -6,6 +6,8 @@ A notebook needs three lines; `grid` is a uint8 array of (height, width) whose c
     file, written = bmp_writer.encode(grid, palette=[(shade, shade, shade) for shade in range(256)])
     open("grid.bmp", "wb").write(file)
 
+and `bmp_writer.read(file)` gives the cells back.
+
 Any buffer of one-byte items may be lent: bytes, bytearray, memoryview, an array of uint8. A buffer of one dimension says
 nothing of its shape and needs the width and the height. What could be read in two ways is refused: an argument of the wrong
 type raises TypeError and one that does not fit ValueError, both with the argument's name, and what the library refuses raises
@@ -16,21 +18,23 @@ has it, and then where `bash clients/build.sh` writes it in a checkout.
 """
 from __future__ import annotations
 
+import array
 import ctypes
+import mmap
 import operator
 import os
 import reprlib
 from collections.abc import Mapping
 from dataclasses import dataclass
-from typing import TYPE_CHECKING, Any, List, Optional, Sequence, Tuple, Union
+from typing import TYPE_CHECKING, Any, List, NamedTuple, Optional, Sequence, Tuple, Union
 
 if TYPE_CHECKING:
     from typing_extensions import Buffer
 else:
     Buffer = Any
 
-__all__ = ["BYTES_PER_PIXEL", "Bitfields", "BmpError", "CalibratedRgb", "EncodeOptions", "FORMATS", "REFUSALS", "WRITTEN",
-           "check_masks", "encode", "size_bound"]
+__all__ = ["BYTES_PER_PIXEL", "Bitfields", "BmpError", "CalibratedRgb", "EncodeOptions", "FORMATS", "Picture", "REFUSALS",
+           "WRITTEN", "check_masks", "encode", "read", "size_bound"]
 __version__ = "1.0.0"
 
 FORMATS = ("Rgba", "Rgb24", "Bgra", "Bgr24", "Rgb555", "Rgb565", "Pal8", "Indexed4", "Indexed2", "Indexed1")
@@ -55,6 +59,9 @@ REFUSALS = {
     14: "the file would be over 4294967295 bytes",
     15: "the buffer is shorter than the file's bound",
     16: "neither the stream nor the plain file fits in 4294967295 bytes",
+    17: "the head is one that the writer never writes",
+    18: "a byte of header, masks, table, rows or profile lies outside the file",
+    19: "the stream steps over a row's end, ends too early or uses a delta code",
     255: "the format's number is none of those listed",
 }
 
@@ -101,6 +108,26 @@ class EncodeOptions:
     calibrated_rgb: Optional[CalibratedRgb] = None
 
 
+class Picture(NamedTuple):
+    """A file that was read.
+
+    depth    The bits of a stored cell: 1, 2, 4, 8, 16, 24 or 32.
+    head     The first 14 bytes and the header.
+    table    Four bytes an entry, as filed: blue, green, red, 0. It is empty above depth 8.
+    cells    An array of the type code 'I', row by row from the top: up to depth 8 an index a cell, above it four numbers, red,
+             green, blue and alpha, each as wide as the file stores it. Alpha is 0 but for compression 6, and a channel whose
+             mask is 0 is 0. (numpy: numpy.asarray(cells).reshape(height, width), or (height, width, 4) above depth 8.)
+    profile  The colour profile, or the name of a linked one; empty where there is none.
+    """
+    width: int
+    height: int
+    depth: int
+    head: bytes
+    table: bytes
+    cells: array.array
+    profile: bytes
+
+
 class _Options(ctypes.Structure):
     _fields_ = [("top_down", ctypes.c_bool), ("minimal_palette", ctypes.c_bool), ("rle", ctypes.c_bool),
                 ("embed_icc", ctypes.c_bool), ("has_bitfields", ctypes.c_bool), ("has_calibrated", ctypes.c_bool),
@@ -116,6 +143,16 @@ class _Source(ctypes.Structure):
 
 class _Answer(ctypes.Structure):
     _fields_ = [("bytes", ctypes.c_uint64), ("refusal", ctypes.c_uint32), ("format", ctypes.c_uint32)]
+
+
+class _Reading(ctypes.Structure):
+    _fields_ = [("profile_at", ctypes.c_uint64), ("profile_bytes", ctypes.c_uint64), ("refusal", ctypes.c_uint32),
+                ("width", ctypes.c_uint32), ("height", ctypes.c_uint32), ("depth", ctypes.c_uint32)]
+
+
+class _ReadingSizes(ctypes.Structure):
+    _fields_ = [("head_bytes", ctypes.c_uint64), ("table_bytes", ctypes.c_uint64), ("cell_numbers", ctypes.c_uint64),
+                ("refusal", ctypes.c_uint32), ("width", ctypes.c_uint32), ("height", ctypes.c_uint32), ("depth", ctypes.c_uint32)]
 
 
 _KINDS = {name.lower(): kind for kind, name in enumerate(FORMATS)}
@@ -153,6 +190,10 @@ def _lib() -> ctypes.CDLL:
             library.bmp_encode_into.restype = _Answer
             library.bmp_check_masks.argtypes = [ctypes.c_uint16] + [ctypes.c_uint32] * 4
             library.bmp_check_masks.restype = ctypes.c_uint32
+            library.bmp_read.argtypes = [ctypes.c_char_p, ctypes.c_size_t] + [ctypes.c_void_p, ctypes.c_size_t] * 3
+            library.bmp_read.restype = _Reading
+            library.bmp_read_sizes.argtypes = [ctypes.c_char_p, ctypes.c_size_t]
+            library.bmp_read_sizes.restype = _ReadingSizes
         except (OSError, AttributeError) as error:
             raise ImportError(f"the library {path} cannot be used ({error}): {_BUILD}") from error
         _library = library
@@ -387,6 +428,33 @@ def encode(plane: Buffer, width: Optional[int] = None, height: Optional[int] = N
     out = ctypes.create_string_buffer(bound)
     answer = _accepted(_lib().bmp_encode_into(*arguments, out, bound, 0))
     return memoryview(out)[:answer.bytes].tobytes(), WRITTEN[answer.format]
+
+
+def _unfilled(numbers: int) -> mmap.mmap:
+    """Memory for so many numbers. The system gives each page when it is first written to, so that a short stream which asks for
+    gigabytes is refused without having them."""
+    try:
+        return mmap.mmap(-1, 4 * numbers, mmap.MAP_PRIVATE | mmap.MAP_ANONYMOUS)
+    except (OSError, OverflowError, ValueError) as error:
+        raise MemoryError(f"data: there is no memory for the {numbers} numbers of its cells") from error
+
+
+def read(data: Buffer) -> Picture:
+    """The picture in a file, which is any buffer of one-byte items. The library reads with the interpreter's lock released.
+
+    Raises BmpError with 17, 18 or 19 where the file is refused, and MemoryError where there is no memory for the cells: the few
+    bytes of a stream can ask for nearly 2 ** 62 of them.
+    """
+    file = _flat("data", data)
+    sizes = _accepted(_lib().bmp_read_sizes(file, len(file)))
+    head, table = ctypes.create_string_buffer(sizes.head_bytes), ctypes.create_string_buffer(sizes.table_bytes)
+    lent = _unfilled(sizes.cell_numbers)
+    answer = _accepted(_lib().bmp_read(file, len(file), head, len(head), table, len(table),
+                                       ctypes.byref(ctypes.c_char.from_buffer(lent)), sizes.cell_numbers))
+    cells = array.array("I")
+    cells.frombytes(lent)
+    profile = file[answer.profile_at:answer.profile_at + answer.profile_bytes]
+    return Picture(answer.width, answer.height, answer.depth, head.raw, table.raw, cells, profile)
 
 
 def check_masks(bpp: int, red: int, green: int, blue: int, alpha: int = 0) -> None:

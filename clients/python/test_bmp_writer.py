@@ -2,6 +2,7 @@
 import array
 import copy
 import ctypes
+import mmap
 import multiprocessing
 import os
 import pickle
@@ -9,10 +10,13 @@ import re
 import subprocess
 import sys
 import tempfile
+import typing
 import unittest
+from concurrent.futures import ThreadPoolExecutor
 
 import bmp_writer
-from bmp_writer import BYTES_PER_PIXEL, FORMATS, BmpError, Bitfields, CalibratedRgb, EncodeOptions, encode, size_bound
+from bmp_writer import (BYTES_PER_PIXEL, FORMATS, BmpError, Bitfields, CalibratedRgb, EncodeOptions, Picture, encode,
+                        size_bound)
 
 try:
     import numpy
@@ -312,6 +316,16 @@ class Arrays(Case):
         flags = numpy.array([[True, False], [False, True]])
         self.assertEqual(encode(flags, format="Indexed1", palette=GREYS), encode(b"\1\0\0\1", 2, 2, "Indexed1", palette=GREYS))
 
+    def test_a_grid_comes_back(self):
+        grid = numpy.arange(200 * 100, dtype="uint8").reshape(100, 200)
+        picture = bmp_writer.read(encode(grid, palette=GREYS)[0])
+        cells = numpy.asarray(picture.cells)
+        self.assertEqual((cells.dtype, cells.reshape(picture.height, picture.width).tolist()), ("uint32", grid.tolist()))
+        colours = numpy.arange(240, dtype="uint8").reshape(8, 10, 3)
+        picture = bmp_writer.read(numpy.frombuffer(encode(colours, format="Rgb24")[0], dtype="uint8"))
+        cells = numpy.asarray(picture.cells).reshape(picture.height, picture.width, 4)
+        self.assertEqual((cells[:, :, :3].tolist(), cells[:, :, 3].any()), (colours.tolist(), False))
+
     def test_words(self):
         words = numpy.arange(6, dtype="uint16").reshape(2, 3) * 5000
         self.wrong(TypeError, ["plane: numpy.ndarray with items of 2 bytes ('H')"], words, format="Rgb565")
@@ -429,6 +443,171 @@ class Numbers(Case):
         wrong(TypeError, "options.calibrated_rgb.gamma[2]: 2.2", calibrated_rgb=CalibratedRgb([0] * 9, [0, 0, 2.2]))
 
 
+class Reading(Case):
+    # Each row has a long run, one other cell, a short run, and then cells that differ, which a stream stores as they are.
+    grid = bytes((29 * y + x // 20 + x // 21 if x < 25 else 7 * x + y) % 256 for y in range(7) for x in range(33))
+    masks = Bitfields(16, (0xF000, 0xF00, 0, 0xF))
+    gauges = CalibratedRgb([1] * 9, [2] * 3)
+
+    def files(self):
+        """A file in every format and mode, with what it was written as."""
+        for name, size in zip(FORMATS, BYTES_PER_PIXEL):
+            fields = [{}, {"rle": False}, {"top_down": True}, {"minimal_palette": True}, {"calibrated_rgb": self.gauges}]
+            if name in ("Rgba", "Rgb24", "Bgra", "Bgr24"):
+                fields += [{"bitfields": self.masks}, {"bitfields": Bitfields(32, (0xFF, 0, 0xFF00, 0)), "top_down": True}]
+            for given in [{"icc": b"profile"}, *({"options": EncodeOptions(**named)} for named in fields)]:
+                yield encode(self.grid[:33 // size * size * 7], 33 // size, 7, name, palette=GREYS[:2], **given)
+
+    def unread(self, number, data):
+        with self.assertRaises(BmpError) as caught:
+            bmp_writer.read(data)
+        self.assertEqual(caught.exception.number, number)
+        self.assertEqual(str(caught.exception), f"{number}: {bmp_writer.REFUSALS[number]}")
+
+    def test_the_specifications_file(self):
+        picture = Picture(5, 1, 8, M12[:54], M12[54:58], array.array("I", [7] * 5), b"")
+        for length in range(60):
+            self.unread(18 if length < 58 else 19, M12[:length])
+        for length in (60, 61, 62):
+            self.assertEqual(bmp_writer.read(M12[:length]), picture)
+
+    def test_other_fields(self):
+        # A head's last field, a table's fourth byte, and halves of RLE4 that differ come back as they are filed.
+        file = M12[:28] + b"\4\0\2" + M12[31:50] + b"ABCDEFGH\5\x1e"
+        self.assertEqual(bmp_writer.read(file), Picture(5, 1, 4, file[:54], b"EFGH", array.array("I", [1, 14, 1, 14, 1]), b""))
+
+    def test_indices(self):
+        table = bytes(v for shade in range(256) for v in (shade, shade // 2, shade // 3, 0))
+        palette = [(shade // 3, shade // 2, shade) for shade in range(256)]
+        for name, depth, written in (("Pal8", 8, ("Indexed8", "Rle8")), ("Indexed4", 4, ("Indexed4", "Rle4")),
+                                     ("Indexed2", 2, ("Indexed2",)), ("Indexed1", 1, ("Indexed1",))):
+            cells = array.array("I", [index % 2 ** depth for index in self.grid])
+            for options, form in ((EncodeOptions(), written[-1]), (EncodeOptions(rle=False), written[0]),
+                                  (EncodeOptions(top_down=True), written[0]),
+                                  (EncodeOptions(calibrated_rgb=self.gauges), written[0])):
+                file, answered = encode(self.grid, 33, 7, name, palette=palette, options=options)
+                size = 122 if options.calibrated_rgb else 54
+                self.assertEqual(answered, form)
+                self.assertEqual(bmp_writer.read(file), Picture(33, 7, depth, file[:size], table[:4 * 2 ** depth], cells, b""))
+            file, _ = encode(self.grid, 33, 7, name, palette=palette[:2], options=EncodeOptions(minimal_palette=True))
+            self.assertEqual(bmp_writer.read(file), Picture(33, 7, depth, file[:54], table[:8], cells, b""))
+
+    def test_colours(self):
+        plane = bytes(range(0, 240, 5))
+        words = [plane[k] + 256 * plane[k + 1] for k in range(0, 48, 2)]
+        for name, size in zip(FORMATS[:6], BYTES_PER_PIXEL):
+            if size == 2:
+                red = 1024 if name == "Rgb555" else 2048
+                cells = [v for word in words for v in (word // red % 32, word % red // 32, word % 32, 0)]
+            else:
+                red = 0 if name.startswith("Rgb") else 2
+                cells = [v for k in range(0, 48, size) for v in (plane[k + red], plane[k + 1], plane[k + 2 - red], 0)]
+            for top_down in (False, True):
+                file, _ = encode(plane, 24 // size, 2, name, options=EncodeOptions(top_down=top_down))
+                head = file[:122 if name == "Rgb565" else 54]
+                self.assertEqual(bmp_writer.read(file), Picture(24 // size, 2, 8 * size, head, b"", array.array("I", cells), b""))
+
+    def test_masks(self):
+        plane = bytes.fromhex("123456789ABCDEFF")
+        for bpp, masks, form, cells in (
+                (16, (0xF000, 0xF00, 0xF0, 0xF), "AlphaBitfields", [1, 3, 5, 7, 9, 0xB, 0xD, 0xF]),
+                (16, (0xF000, 0xF00, 0, 0xF), "AlphaBitfields", [1, 3, 0, 7, 9, 0xB, 0, 0xF]),
+                (16, (0xF, 0xF0, 0xF00, 0), "Bitfields", [1, 3, 5, 0, 9, 0xB, 0xD, 0]),
+                (32, (0xFF, 0xFF00, 0xFF0000, 0xFF000000), "AlphaBitfields", list(plane)),
+                (32, (0xFF00, 0, 0xFFFF0000, 0), "Bitfields", [0x12, 0, 0x5656, 0, 0x9A, 0, 0xDEDE, 0])):
+            file, written = encode(plane, 2, 1, "Rgba", options=EncodeOptions(bitfields=Bitfields(bpp, masks)))
+            self.assertEqual(written, form)
+            self.assertEqual(bmp_writer.read(file), Picture(2, 1, bpp, file[:54], b"", array.array("I", cells), b""))
+
+    def test_profiles(self):
+        for given, profile in (({"icc": b"abc"}, b"abc"), ({"icc": b"abc", "linked_icc": b"path"}, b"path"), ({"icc": b""}, b""),
+                               ({"icc": b"abc", "options": EncodeOptions(embed_icc=False)}, b""), ({}, b"")):
+            file, _ = encode(b"\1\2\3", 1, 1, "Rgb24", **given)
+            picture = bmp_writer.read(file)
+            self.assertEqual((type(picture.profile), picture.profile, picture.cells.tolist()), (bytes, profile, [1, 2, 3, 0]))
+
+    def test_kinds_of_buffers(self):
+        picture = bmp_writer.read(M12)
+        for kind in (bytes, bytearray, memoryview, lambda b: memoryview(bytearray(b)).toreadonly(), lambda b: array.array("B", b),
+                     (ctypes.c_ubyte * 62).from_buffer_copy, (ctypes.c_char * 62).from_buffer_copy,
+                     lambda b: memoryview(b).cast("c"), lambda b: memoryview(b"x" + b + b"x")[1:63],
+                     lambda b: memoryview(bytes(v for v in b for _ in "ab"))[::2]):
+            self.assertEqual(bmp_writer.read(kind(M12)), picture)
+        with tempfile.TemporaryFile() as file:
+            file.write(M12)
+            file.flush()
+            with mmap.mmap(file.fileno(), 0, access=mmap.ACCESS_READ) as mapped:
+                self.assertEqual(bmp_writer.read(mapped), picture)
+        for data, kind in ((None, "NoneType"), (4, "int"), ("BM", "str"), ([66, 77], "list")):
+            with self.assertRaisesRegex(TypeError, f"^data: {kind} given; bytes"):
+                bmp_writer.read(data)
+        with self.assertRaisesRegex(TypeError, r"^data: array.array with items of 4 bytes \('I'\)"):
+            bmp_writer.read(array.array("I", [1]))
+        with self.assertRaisesRegex(ValueError, r"^data: shape \(2, 31\); one dimension is needed"):
+            bmp_writer.read(memoryview(M12).cast("B", (2, 31)))
+
+    def test_what_comes_back_is_the_callers(self):
+        data = bytearray(M12)
+        picture = bmp_writer.read(data)
+        data[:] = bytes(62)
+        self.assertEqual(picture, bmp_writer.read(M12))
+        picture.cells[0] = 2 ** 32 - 1
+        for other in (pickle.loads(pickle.dumps(picture)), copy.deepcopy(picture)):
+            self.assertEqual((type(other), other), (Picture, picture))
+        self.assertEqual(set(typing.get_type_hints(Picture)), set(Picture._fields))
+
+    def test_refusals(self):
+        for at, changed in ((0, b"BN"), (14, b"\x29"), (18, b"\0"), (22, b"\0"), (22, b"\xff" * 4), (28, b"\3"), (30, b"\2"),
+                            (47, b"\2")):
+            self.unread(17, M12[:at] + changed + M12[at + len(changed):])
+        masked, _ = encode(b"\1\2\3", 1, 1, "Rgb24", options=EncodeOptions(bitfields=self.masks))
+        self.unread(17, masked[:54] + b"\5" + masked[55:])
+        self.unread(17, b"BN")
+        self.unread(18, b"")
+        for codes in (b"\6\7\0\1", b"\4\7\0\1", b"\0\0\5\7", b"\0\2\0\0\5\7", b"\0\2\7\7\3\7", b"\0\5\7\7"):
+            self.unread(19, M12[:58] + codes)
+
+    def test_every_length(self):
+        for file, written in self.files():
+            picture = bmp_writer.read(file)
+            for length in range(len(file)):
+                try:
+                    shorter = bmp_writer.read(file[:length])
+                except BmpError as error:
+                    self.assertIn(error.number, (18, 19) if written.startswith("Rle") else (18,))
+                else:
+                    # A stream's end and the padding before it come after the last cell.
+                    self.assertTrue(written.startswith("Rle") and length >= len(file) - 3)
+                    self.assertEqual(shorter, picture)
+            self.assertEqual(bmp_writer.read(file + b"more"), picture)
+
+    def test_huge_heads(self):
+        def asked(width, height):
+            return M12[:18] + width.to_bytes(4, "little") + height.to_bytes(4, "little") + M12[26:]
+
+        with self.assertRaisesRegex(MemoryError, r"^data: there is no memory for the 4611686014132420609 numbers of its cells$"):
+            bmp_writer.read(asked(2 ** 31 - 1, 2 ** 31 - 1))
+        for bits in range(10, 31):
+            # Whether there is memory depends on the machine; none of it is written to.
+            with self.assertRaises((BmpError, MemoryError)) as caught:
+                bmp_writer.read(asked(2 ** bits, 2 ** 10))
+            self.assertEqual(getattr(caught.exception, "number", 19), 19)
+
+    def test_threads(self):
+        # A library of the other kind would keep the interpreter's lock.
+        self.assertNotIsInstance(bmp_writer._lib(), ctypes.PyDLL)
+        files = [file for file, _ in self.files()]
+        with ThreadPoolExecutor(4) as pool:
+            self.assertEqual(list(pool.map(bmp_writer.read, files)), [bmp_writer.read(file) for file in files])
+
+    def test_a_thousand_squared(self):
+        plane = bytes(v * v // 4000 % 256 for v in range(1000)) * 1000
+        for rle in (False, True):
+            file, written = encode(plane, 1000, 1000, palette=GREYS, options=EncodeOptions(rle=rle))
+            picture = bmp_writer.read(file)
+            self.assertEqual((written, bytes(picture.cells.tolist())), ("Rle8" if rle else "Indexed8", plane))
+
+
 class Errors(unittest.TestCase):
     def test_a_value_error_with_number_and_text(self):
         error = BmpError(12)
@@ -456,11 +635,20 @@ class Errors(unittest.TestCase):
 
     def test_the_texts_are_those_of_the_header(self):
         header = read("../c/bmp_writer.h")
-        for text in bmp_writer.REFUSALS.values():
-            self.assertIn(f'"{text}"', header)
+        numbers = dict(re.findall(r"^    (BMP_\w+) = (\d+)", header, re.MULTILINE))
+        texts = re.findall(r'case (BMP_\w+): return "(.*)";', header)
+        self.assertEqual({int(numbers[name]): text for name, text in texts}, {0: "not refused", **bmp_writer.REFUSALS})
 
 
 class Package(unittest.TestCase):
+    def test_the_structs_are_the_headers(self):
+        here = []
+        for kind in (bmp_writer._Options, bmp_writer._Source, bmp_writer._Answer, bmp_writer._Reading, bmp_writer._ReadingSizes):
+            name = "bmp" + re.sub("[A-Z]", lambda letter: "_" + letter.group().lower(), kind.__name__[1:])
+            here += [f"BMP_PLACE({name}, {field}, {getattr(kind, field).offset});" for field, _ in kind._fields_]
+            here += [f"BMP_BYTES({name}, {ctypes.sizeof(kind)});"]
+        self.assertEqual(here, re.findall(r"^BMP_(?:PLACE|BYTES)\(.*\);$", read("../c/bmp_writer.h"), re.MULTILINE))
+
     def test_names(self):
         for name in bmp_writer.__all__:
             self.assertTrue(hasattr(bmp_writer, name))

@@ -1,4 +1,5 @@
 //! A BMP writer whose every byte is proved, for Rust, over its C interface: types and names as the original encoder has them.
+//! `read` takes a file apart again.
 //! `build.rs` links `libcapi.a` (`rt staticlib capi`).
 
 /// The layout of the lent plane.
@@ -64,6 +65,8 @@ pub enum BmpErrorKind {
     Refused,
     /// The file is written, but as something that this wrapper does not know.
     UnknownFormat,
+    /// The file asks for more memory than there is to lend. The number is 15: every buffer that can be lent is too short.
+    OutOfMemory,
 }
 
 /// A call without an answer, and the C interface's number for it.
@@ -81,8 +84,10 @@ impl BmpError {
 
     /// The cause in words, for a refusal as in the C header.
     pub fn text(&self) -> &'static str {
-        if self.kind == BmpErrorKind::UnknownFormat {
-            return "unknown number of a written format";
+        match self.kind {
+            BmpErrorKind::Refused => {}
+            BmpErrorKind::UnknownFormat => return "unknown number of a written format",
+            BmpErrorKind::OutOfMemory => return "there is no memory for the cells",
         }
         match self.number {
             0 => "not refused",
@@ -102,6 +107,9 @@ impl BmpError {
             14 => "the file would be over 4294967295 bytes",
             15 => "the buffer is shorter than the file's bound",
             16 => "neither the stream nor the plain file fits in 4294967295 bytes",
+            17 => "the head is one that the writer never writes",
+            18 => "a byte of header, masks, table, rows or profile lies outside the file",
+            19 => "the stream steps over a row's end, ends too early or uses a delta code",
             255 => "the format's number is none of those listed",
             _ => "unknown refusal number",
         }
@@ -138,10 +146,7 @@ pub struct BmpBitfields {
 impl BmpBitfields {
     /// The mask check: 6 to 10 where it refuses.
     pub fn validate(&self) -> Result<()> {
-        match unsafe { bmp_check_masks(self.bpp, self.r, self.g, self.b, self.a) } {
-            0 => Ok(()),
-            number => Err(BmpError::refused(number)),
-        }
+        accepted(unsafe { bmp_check_masks(self.bpp, self.r, self.g, self.b, self.a) })
     }
 }
 
@@ -239,6 +244,48 @@ pub struct EncodeSource<'a> {
     pub icc: Option<&'a [u8]>,
 }
 
+/// What a file asks for, and the size that it shows.
+#[derive(Clone, Copy, Debug, PartialEq, Eq)]
+pub struct ReadingSizes {
+    pub width: u32,
+    pub height: u32,
+    /// Bits of a stored cell: 1, 2, 4, 8, 16, 24 or 32.
+    pub depth: u32,
+    /// What `head` must have: 54, 122 or 138 bytes.
+    pub head_bytes: usize,
+    /// What `table` must have: at most 1024 bytes, and none above depth 8.
+    pub table_bytes: usize,
+    /// What `cells` must have. The few bytes of a stream can ask for nearly 2^62 numbers.
+    pub cell_numbers: u64,
+}
+
+/// What is answered beside the filled buffers.
+#[derive(Clone, Copy, Debug, PartialEq, Eq)]
+pub struct Reading<'a> {
+    pub width: u32,
+    /// Rows, also of a file whose height is negative.
+    pub height: u32,
+    pub depth: u32,
+    /// The part of the file that is its profile; empty where there is none.
+    pub profile: &'a [u8],
+}
+
+/// A file that was read.
+#[derive(Clone, Debug, PartialEq, Eq)]
+pub struct Picture<'a> {
+    pub width: u32,
+    pub height: u32,
+    pub depth: u32,
+    /// The first 14 bytes and the header.
+    pub head: Vec<u8>,
+    /// Four bytes an entry, as filed: blue, green, red, 0.
+    pub table: Vec<u8>,
+    /// Row by row from the top: up to depth 8 an index a cell, above it four numbers, red, green, blue and alpha. Alpha is 0
+    /// but for compression 6, and a channel whose mask is 0 is 0.
+    pub cells: Vec<u32>,
+    pub profile: &'a [u8],
+}
+
 #[repr(C)]
 #[derive(Clone, Copy)]
 struct RawOptions {
@@ -274,6 +321,27 @@ struct RawAnswer {
     format: u32,
 }
 
+#[repr(C)]
+struct RawReading {
+    profile_at: u64,
+    profile_bytes: u64,
+    refusal: u32,
+    width: u32,
+    height: u32,
+    depth: u32,
+}
+
+#[repr(C)]
+struct RawReadingSizes {
+    head_bytes: u64,
+    table_bytes: u64,
+    cell_numbers: u64,
+    refusal: u32,
+    width: u32,
+    height: u32,
+    depth: u32,
+}
+
 #[rustfmt::skip]
 unsafe extern "C" {
     fn bmp_encode_into(
@@ -285,6 +353,11 @@ unsafe extern "C" {
         icc: *const u8, icc_len: usize, linked_icc: *const u8, linked_icc_len: usize,
     ) -> RawAnswer;
     fn bmp_check_masks(bpp: u16, red: u32, green: u32, blue: u32, alpha: u32) -> u32;
+    fn bmp_read(
+        file: *const u8, file_len: usize, head: *mut u8, head_len: usize, table: *mut u8, table_len: usize,
+        cells: *mut u32, cells_len: usize,
+    ) -> RawReading;
+    fn bmp_read_sizes(file: *const u8, file_len: usize) -> RawReadingSizes;
 }
 
 fn raw_source(src: &EncodeSource<'_>, options: &EncodeOptions) -> RawSource {
@@ -317,9 +390,9 @@ fn raw_options(options: &EncodeOptions) -> RawOptions {
     }
 }
 
-fn accepted(answer: RawAnswer) -> Result<RawAnswer> {
-    match answer.refusal {
-        0 => Ok(answer),
+fn accepted(refusal: u32) -> Result<()> {
+    match refusal {
+        0 => Ok(()),
         number => Err(BmpError::refused(number)),
     }
 }
@@ -336,7 +409,8 @@ pub fn encoded_size_bound(src: &EncodeSource<'_>, options: &EncodeOptions) -> Re
             icc.as_ptr(), icc.len(), linked.as_ptr(), linked.len(),
         )
     };
-    Ok(accepted(answer)?.bytes as usize)
+    accepted(answer.refusal)?;
+    Ok(answer.bytes as usize)
 }
 
 /// Appends the file at the offset of a lent buffer; a refused call changes no byte of it.
@@ -351,7 +425,7 @@ pub fn encode_into(src: &EncodeSource<'_>, options: &EncodeOptions, out: &mut [u
             icc.as_ptr(), icc.len(), linked.as_ptr(), linked.len(), out.as_mut_ptr(), out.len(), offset,
         )
     };
-    let answer = accepted(answer)?;
+    accepted(answer.refusal)?;
     Ok((answer.bytes as usize, answer.format.try_into()?))
 }
 
@@ -361,6 +435,58 @@ pub fn encode(src: &EncodeSource<'_>, options: &EncodeOptions) -> Result<(Vec<u8
     let (bytes, format) = encode_into(src, options, &mut out, 0)?;
     out.truncate(bytes);
     Ok((out, format))
+}
+
+/// How much a reading call asks for: 17 or 18 where it is refused with that.
+pub fn read_sizes(file: &[u8]) -> Result<ReadingSizes> {
+    // The pointer goes with the length of its slice, and the call reads no further.
+    let answer = unsafe { bmp_read_sizes(file.as_ptr(), file.len()) };
+    accepted(answer.refusal)?;
+    Ok(ReadingSizes {
+        width: answer.width,
+        height: answer.height,
+        depth: answer.depth,
+        head_bytes: answer.head_bytes as usize,
+        table_bytes: answer.table_bytes as usize,
+        cell_numbers: answer.cell_numbers,
+    })
+}
+
+/// The call, on cells that need not be initialised, since nothing that it answers or fills depends on what was there.
+///
+/// # Safety
+/// So many numbers can be written from `cells` on, and nothing else refers to them.
+#[rustfmt::skip]
+unsafe fn read_raw<'a>(file: &'a [u8], head: &mut [u8], table: &mut [u8], cells: *mut u32, numbers: usize) -> Result<Reading<'a>> {
+    // The same, and `head` and `table` are borrowed alone, so nothing overlaps.
+    let answer = unsafe {
+        bmp_read(file.as_ptr(), file.len(), head.as_mut_ptr(), head.len(), table.as_mut_ptr(), table.len(), cells, numbers)
+    };
+    accepted(answer.refusal)?;
+    let profile = &file[answer.profile_at as usize..][..answer.profile_bytes as usize];
+    Ok(Reading { width: answer.width, height: answer.height, depth: answer.depth, profile })
+}
+
+/// Reads the file into lent buffers, which `Picture` describes: 17, 18, 15 or 19, in this order, where it is refused. A refused
+/// call changes no buffer, and values past those filled stay.
+pub fn read_into<'a>(file: &'a [u8], head: &mut [u8], table: &mut [u8], cells: &mut [u32]) -> Result<Reading<'a>> {
+    // The cells too are borrowed alone.
+    unsafe { read_raw(file, head, table, cells.as_mut_ptr(), cells.len()) }
+}
+
+/// The file in buffers of its own: 17, 18 or 19 where it is refused, and `OutOfMemory` where the buffers cannot be had.
+pub fn read(file: &[u8]) -> Result<Picture<'_>> {
+    let sizes = read_sizes(file)?;
+    let mut cells = Vec::new();
+    let lent = usize::try_from(sizes.cell_numbers).ok().filter(|numbers| cells.try_reserve_exact(*numbers).is_ok());
+    let numbers = lent.ok_or(BmpError { kind: BmpErrorKind::OutOfMemory, number: 15 })?;
+    let (mut head, mut table) = (vec![0; sizes.head_bytes], vec![0; sizes.table_bytes]);
+    // As many are reserved. They are not filled first, so that a short stream which asks for gigabytes is refused without them.
+    let reading = unsafe { read_raw(file, &mut head, &mut table, cells.as_mut_ptr(), numbers)? };
+    // An accepted call has filled as many as the sizes say.
+    unsafe { cells.set_len(numbers) };
+    let Reading { width, height, depth, profile } = reading;
+    Ok(Picture { width, height, depth, head, table, cells, profile })
 }
 
 #[cfg(test)]
@@ -383,8 +509,11 @@ mod layout {
             bitfields_bpp, bitfields_masks, rendering_intent, endpoints, gamma);
         here.extend(places!("bmp_source", RawSource: format, width, height, has_palette, has_icc, has_linked_icc, stride));
         here.extend(places!("bmp_answer", RawAnswer: bytes, refusal, format));
+        here.extend(places!("bmp_reading", RawReading: profile_at, profile_bytes, refusal, width, height, depth));
+        here.extend(places!("bmp_reading_sizes", RawReadingSizes: head_bytes, table_bytes, cell_numbers, refusal, width, height,
+            depth));
         let header = include_str!("../../c/bmp_writer.h");
         let there: Vec<&str> = header.lines().filter(|l| l.starts_with("BMP_PLACE(") || l.starts_with("BMP_BYTES(")).collect();
-        assert_eq!((here.len(), here), (24, there.into_iter().map(String::from).collect()));
+        assert_eq!((here.len(), here), (39, there.into_iter().map(String::from).collect()));
     }
 }

@@ -61,13 +61,13 @@ fn refusals() {
 #[test]
 fn the_texts_are_the_headers() {
     let there: Vec<&str> = HEADER.split("return \"").skip(1).map(|rest| rest.split('"').next().unwrap()).collect();
-    let here: Vec<&str> = (0..=16).chain([255, 17]).map(|number| BmpError::refused(number).text()).collect();
+    let here: Vec<&str> = (0..=19).chain([255, 20]).map(|number| BmpError::refused(number).text()).collect();
     assert_eq!(here, there);
 }
 
 #[test]
 fn unknown_numbers_print_as_such() {
-    assert_eq!(BmpError::refused(17).to_string(), "17: unknown refusal number");
+    assert_eq!(BmpError::refused(20).to_string(), "20: unknown refusal number");
     assert_eq!(BmpError::refused(u32::MAX).to_string(), "4294967295: unknown refusal number");
     assert_eq!(BmpError::refused(255).to_string(), "255: the format's number is none of those listed");
     assert_eq!(EncodedBmpFormat::try_from(11), Ok(EncodedBmpFormat::AlphaBitfields));
@@ -88,6 +88,200 @@ fn the_error_is_an_error() {
     assert_eq!(error.downcast_ref(), Some(&BmpError::refused(3)));
     assert_eq!(error.to_string(), "3: an indexed format needs a palette");
     assert_eq!(format!("{error:?}"), "BmpError(3: an indexed format needs a palette)");
+}
+
+fn read_number(file: &[u8]) -> u32 {
+    let error = read(file).unwrap_err();
+    assert_eq!(error.kind, BmpErrorKind::Refused);
+    error.number
+}
+
+/// Writes the picture and reads it back. The head and the table stand in front of the file, the size is the picture's, and
+/// every byte is needed but for the end of a stream.
+fn round(src: &EncodeSource, options: &EncodeOptions, written: EncodedBmpFormat) -> (u32, Vec<u8>, Vec<u32>, Vec<u8>) {
+    let (file, format) = encode(src, options).unwrap();
+    let picture = read(&file).unwrap();
+    let heads = picture.head.len();
+    assert_eq!((format, picture.width, picture.height), (written, src.width, src.height));
+    assert_eq!((&picture.head[..], &picture.table[..]), (&file[..heads], &file[heads..heads + picture.table.len()]));
+    let sizes = read_sizes(&file).unwrap();
+    assert_eq!((sizes.width, sizes.height, sizes.depth), (picture.width, picture.height, picture.depth));
+    assert_eq!((sizes.head_bytes, sizes.table_bytes, sizes.cell_numbers), (heads, picture.table.len(), picture.cells.len() as u64));
+    let coded = matches!(format, EncodedBmpFormat::Rle8 | EncodedBmpFormat::Rle4);
+    assert!((0..file.len() - if coded { 3 } else { 0 }).all(|len| read(&file[..len]).is_err()));
+    (picture.depth, picture.table, picture.cells, picture.profile.to_vec())
+}
+
+/// Every indexed format, plain and as a stream, from the bottom and from the top. Indices come back cut to the depth.
+#[test]
+fn indices_read_back() {
+    // Each row has a long run, one other cell, a short run, and then cells that differ, which a stream stores as they are.
+    let index = |x: u32, y: u32| if x < 25 { 29 * y + x / 20 + x / 21 } else { 7 * x + y };
+    let plane: Vec<u8> = (0..33 * 7).map(|k| index(k % 33, k / 33) as u8).collect();
+    let palette: Vec<u8> = (0..1024u32).map(|k| (k % 251) as u8).collect();
+    for (format, depth, plain, stream) in [
+        (BmpPixelFormat::Pal8, 8, EncodedBmpFormat::Indexed8, EncodedBmpFormat::Rle8),
+        (BmpPixelFormat::Indexed4, 4, EncodedBmpFormat::Indexed4, EncodedBmpFormat::Rle4),
+        (BmpPixelFormat::Indexed2, 2, EncodedBmpFormat::Indexed2, EncodedBmpFormat::Indexed2),
+        (BmpPixelFormat::Indexed1, 1, EncodedBmpFormat::Indexed1, EncodedBmpFormat::Indexed1),
+    ] {
+        let src = EncodeSource { height: 7, palette: Some(&palette), ..picture(format, 33, 33, &plane) };
+        let cells: Vec<u32> = plane.iter().map(|index| u32::from(*index) % (1 << depth)).collect();
+        let table: Vec<u8> = palette.chunks(4).take(1 << depth).flat_map(|e| [e[2], e[1], e[0], 0]).collect();
+        let default = EncodeOptions::new();
+        for (options, written) in [
+            (default.clone(), stream),
+            (default.clone().with_rle(false), plain),
+            (default.clone().with_top_down(true), plain),
+            (default.clone().with_calibrated_rgb(CalibratedRgb { endpoints: [1; 9], gamma: [2; 3] }), plain),
+        ] {
+            assert_eq!(round(&src, &options, written), (depth, table.clone(), cells.clone(), vec![]));
+        }
+        let short = EncodeSource { palette: Some(&palette[..8]), ..src };
+        assert_eq!(round(&short, &default.with_minimal_palette(true), stream).1, table[..8]);
+    }
+}
+
+/// Colours in every layout. There is no alpha, though the file of 32 bits stores one.
+#[test]
+fn colours_read_back() {
+    let plane: Vec<u8> = (0..48).map(|k| k * 5).collect();
+    let words: Vec<u32> = plane.chunks(2).map(|w| u32::from(w[0]) + 256 * u32::from(w[1])).collect();
+    let samples = |pixel, red: usize| plane.chunks(pixel).flat_map(|p| [p[red], p[1], p[2 - red], 0].map(u32::from)).collect();
+    let fields = |red: u32| words.iter().flat_map(|word| [word / red % 32, word % red / 32, word % 32, 0]).collect();
+    let formats: [(BmpPixelFormat, usize, u32, EncodedBmpFormat, Vec<u32>); 6] = [
+        (BmpPixelFormat::Rgba, 4, 32, EncodedBmpFormat::Rgb32, samples(4, 0)),
+        (BmpPixelFormat::Bgra, 4, 32, EncodedBmpFormat::Rgb32, samples(4, 2)),
+        (BmpPixelFormat::Rgb24, 3, 24, EncodedBmpFormat::Rgb24, samples(3, 0)),
+        (BmpPixelFormat::Bgr24, 3, 24, EncodedBmpFormat::Rgb24, samples(3, 2)),
+        (BmpPixelFormat::Rgb555, 2, 16, EncodedBmpFormat::Rgb16Rgb, fields(1024)),
+        (BmpPixelFormat::Rgb565, 2, 16, EncodedBmpFormat::Rgb16Bitfields, fields(2048)),
+    ];
+    for (format, pixel, depth, written, cells) in formats {
+        let src = EncodeSource { height: 2, ..picture(format, 24 / pixel as u32, 24, &plane) };
+        for top_down in [false, true] {
+            let options = EncodeOptions::new().with_top_down(top_down);
+            assert_eq!(round(&src, &options, written), (depth, vec![], cells.clone(), vec![]));
+        }
+    }
+}
+
+/// Each channel comes back as wide as its mask; one without a mask is 0.
+#[test]
+fn masks_read_back() {
+    let src = picture(BmpPixelFormat::Rgba, 2, 8, &[0x12, 0x34, 0x56, 0x78, 0x9A, 0xBC, 0xDE, 0xFF]);
+    for (bpp, masks, written, cells) in [
+        (16, [0xF000, 0xF00, 0xF0, 0xF], EncodedBmpFormat::AlphaBitfields, [1, 3, 5, 7, 9, 0xB, 0xD, 0xF]),
+        (16, [0xF000, 0xF00, 0, 0xF], EncodedBmpFormat::AlphaBitfields, [1, 3, 0, 7, 9, 0xB, 0, 0xF]),
+        (16, [0xF, 0xF0, 0xF00, 0], EncodedBmpFormat::Bitfields, [1, 3, 5, 0, 9, 0xB, 0xD, 0]),
+        (32, [0xFF, 0xFF00, 0xFF0000, 0xFF000000], EncodedBmpFormat::AlphaBitfields, [0x12, 0x34, 0x56, 0x78, 0x9A, 0xBC, 0xDE, 0xFF]),
+        (32, [0xFF00, 0, 0xFFFF0000, 0], EncodedBmpFormat::Bitfields, [0x12, 0, 0x5656, 0, 0x9A, 0, 0xDEDE, 0]),
+    ] {
+        let [r, g, b, a] = masks;
+        let options = EncodeOptions::new().with_bitfields(BmpBitfields { bpp, r, g, b, a });
+        assert_eq!(round(&src, &options, written), (bpp.into(), vec![], cells.to_vec(), vec![]));
+    }
+}
+
+/// What the writer always writes the same comes back as it is filed: a head's last field, a table's fourth byte, and halves of
+/// RLE4 that differ.
+#[test]
+fn other_fields_read_back() {
+    let mut file = M12;
+    (file[28], file[30], file[59]) = (4, 2, 0x1E);
+    file[50..58].fill(0x5A);
+    let picture = read(&file).unwrap();
+    assert_eq!((picture.head, picture.table, picture.cells), (file[..54].to_vec(), vec![0x5A; 4], vec![1, 14, 1, 14, 1]));
+}
+
+/// The profile is a part of the file that was given, and an empty one is an empty part.
+#[test]
+fn profiles_read_back() {
+    let plain = picture(BmpPixelFormat::Rgb24, 1, 3, &[1, 2, 3]);
+    let src = EncodeSource { icc: Some(b"profile"), ..plain };
+    let default = EncodeOptions::new();
+    let (file, _) = encode(&src, &default).unwrap();
+    let picture = read(&file).unwrap();
+    assert_eq!((picture.profile, picture.profile.as_ptr_range()), (&b"profile"[..], file[142..149].as_ptr_range()));
+    assert_eq!(round(&src, &default.clone().with_linked_icc(b"name".to_vec()), EncodedBmpFormat::Rgb24).3, b"name");
+    assert_eq!(round(&src, &default.clone().with_embed_icc(false), EncodedBmpFormat::Rgb24).3, b"");
+    assert_eq!(round(&EncodeSource { icc: Some(b""), ..plain }, &default, EncodedBmpFormat::Rgb24).3, b"");
+}
+
+/// The three numbers that a file can be refused with, and their order.
+#[test]
+fn files_that_are_refused() {
+    let changed = |at: usize, bytes: &[u8]| {
+        let mut file = M12;
+        file[at..at + bytes.len()].copy_from_slice(bytes);
+        file
+    };
+    for (at, bytes) in [(1, &[0x4E][..]), (14, &[41]), (18, &[0]), (22, &[0]), (22, &[0xFF; 4]), (28, &[3]), (30, &[2]), (47, &[2])] {
+        assert_eq!((read_number(&changed(at, bytes)), read_sizes(&changed(at, bytes))), (17, Err(BmpError::refused(17))));
+    }
+    assert_eq!((read_number(b"BN"), read_number(b"BM"), read_number(b"")), (17, 18, 18));
+    let faults: [&[u8]; 6] = [&[6, 7, 0, 1], &[4, 7, 0, 1], &[0, 0, 5, 7], &[0, 2, 0, 0, 5, 7], &[0, 2, 7, 7, 3, 7], &[0, 5, 7, 7]];
+    for codes in faults {
+        let file = [&M12[..58], codes].concat();
+        assert_eq!((read_number(&file), read_sizes(&file)), (19, read_sizes(&M12)));
+    }
+    for len in 0..M12.len() {
+        let number = if len < 58 { 18 } else { 19 };
+        assert_eq!(read(&M12[..len]).map_or_else(|error| error.number, |picture| picture.depth), if len < 60 { number } else { 8 });
+    }
+    assert_eq!(read(&[]).unwrap_err().to_string(), "18: a byte of header, masks, table, rows or profile lies outside the file");
+}
+
+/// A refused call leaves the buffers as they were, and an accepted one what is past the filled values.
+#[test]
+fn lent_buffers() {
+    type Lent = ([u8; 56], [u8; 6], [u32; 7]);
+    const BEFORE: Lent = ([0xAA; 56], [0xAA; 6], [0xAAAA_AAAA; 7]);
+    fn run(file: &[u8], [heads, entries, numbers]: [usize; 3]) -> (Result<Reading<'_>>, Lent) {
+        let (mut head, mut table, mut cells) = BEFORE;
+        let answer = read_into(file, &mut head[1..][..heads], &mut table[1..][..entries], &mut cells[1..][..numbers]);
+        (answer, (head, table, cells))
+    }
+    for (number, file, lens) in [
+        (15, &M12[..], [53, 4, 5]),
+        (15, &M12, [54, 3, 5]),
+        (15, &M12, [54, 4, 4]),
+        (15, &M12, [0, 0, 0]),
+        (15, &M12[..59], [54, 4, 4]),
+        (17, b"BN", [0, 0, 0]),
+        (18, &M12[..57], [54, 4, 4]),
+        (19, &M12[..59], [54, 4, 5]),
+        (19, &[&M12[..58], &[4, 7, 0, 1]].concat(), [54, 4, 5]),
+    ] {
+        assert_eq!(run(file, lens), (Err(BmpError::refused(number)), BEFORE));
+    }
+    for lens in [[54, 4, 5], [55, 5, 6]] {
+        let (answer, (head, table, cells)) = run(&M12, lens);
+        assert_eq!(answer, Ok(Reading { width: 5, height: 1, depth: 8, profile: &[] }));
+        assert_eq!((head[0], &head[1..55], head[55]), (0xAA, &M12[..54], 0xAA));
+        assert_eq!(table, [0xAA, 0, 0, 0, 0, 0xAA]);
+        assert_eq!(cells, [0xAAAA_AAAA, 7, 7, 7, 7, 7, 0xAAAA_AAAA]);
+    }
+}
+
+/// A head of a few bytes may ask for any count of cells. None are had for the largest; others are had or not, and never filled.
+#[test]
+fn huge_heads() {
+    let asked = |width: i32, height: i32| {
+        let mut file = M12;
+        file[18..22].copy_from_slice(&width.to_le_bytes());
+        file[22..26].copy_from_slice(&height.to_le_bytes());
+        (read_sizes(&file).unwrap().cell_numbers, read(&file).unwrap_err())
+    };
+    let (numbers, error) = asked(i32::MAX, i32::MAX);
+    assert_eq!((numbers, error.kind, error.number), ((1 << 62) - (1 << 32) + 1, BmpErrorKind::OutOfMemory, 15));
+    assert_eq!(error.to_string(), "15: there is no memory for the cells");
+    for bits in 10..30 {
+        let (numbers, error) = asked(1 << bits, 1 << 10);
+        assert_eq!(numbers, 1 << (bits + 10));
+        let missing = BmpError { kind: BmpErrorKind::OutOfMemory, number: 15 };
+        assert!(error == BmpError::refused(19) || error == missing, "{error}");
+    }
 }
 
 /// VERSION, the header and Cargo.toml say the same.

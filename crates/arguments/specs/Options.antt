@@ -46,9 +46,10 @@ optionNames =
     ∷ "--icc"
     ∷ "--linked-icc"
     ∷ "--out"
+    ∷ "--read"
     ∷ [])
 
--- the number of the option that a word names before its =; 23 for any other word
+-- the number of the option that a word names before its =; 24 for any other word
 unfoldable pub optionNamed : List ℕ → ℕ
 optionNamed w = placeAmong optionNames (upTo 61 w)
 
@@ -141,7 +142,7 @@ areMasks list = areNumbers 5 0 list && leb (numberOf (itemAt (itemsOf 44 list) 0
 
 -- of a file's name
 unfoldable pub faultOfName : ℕ → List ℕ → ℕ
-faultOfName option name = cond (leb (numbered "--plane") option && leb option (numbered "--out")) (unless (ltb 0 (length name)) 2) 1
+faultOfName option name = cond (leb (numbered "--plane") option && leb option (numbered "--read")) (unless (ltb 0 (length name)) 2) 1
 
 -- of an option's value
 unfoldable pub faultOf : ℕ → List ℕ → ℕ
@@ -158,7 +159,7 @@ faultAlone option valued followed = cond valued 8 (cond (eqb option (numbered "-
 
 -- of an option that no word follows
 unfoldable pub faultLast : ℕ → ℕ
-faultLast option = cond (leb option (numbered "--out")) 2 1
+faultLast option = cond (leb option (numbered "--read")) 2 1
 
 -- what is wrong with the option that words begin with
 unfoldable pub faultAt : List (List ℕ) → ℕ

@@ -31,7 +31,7 @@ use leaves::options::EncodeOptions;
 use leaves::types::LCS_GM_IMAGES;
 
 // The options by number. The first ten stand alone, and each of the others has a value.
-const TOP_DOWN: usize = 0;
+pub const TOP_DOWN: usize = 0;
 
 const MINIMAL_PALETTE: usize = 1;
 
@@ -51,7 +51,7 @@ pub const VERSION: usize = 8;
 
 const END_OF_OPTIONS: usize = 9;
 
-const FORMAT: usize = 10;
+pub const FORMAT: usize = 10;
 
 pub const WIDTH: usize = 11;
 
@@ -76,6 +76,8 @@ pub const ICC: usize = 20;
 pub const LINKED_ICC: usize = 21;
 
 pub const OUT: usize = 22;
+
+pub const READ: usize = 23;
 
 // Why an option is not understood.
 const UNDERSTOOD: usize = 0;
@@ -113,7 +115,7 @@ fn option_named(word: &[u8]) -> usize
     let names =
         b"--top-down,--minimal-palette,--no-rle,--no-embed-icc,--more-follows,--sample-palette,--help,-h,--version,--,\
         --format,--width,--height,--stride,--rendering-intent,--bitfields,--calibrated-rgb,--plane,--csv,--palette,\
-        --icc,--linked-icc,--out";
+        --icc,--linked-icc,--out,--read";
     place_in(names, piece(word, 0, b'='), false)
 }
 
@@ -239,7 +241,7 @@ fn fault_of_name(option: usize, name: &[u8]) -> usize
     if option < PLANE {
         return UNKNOWN_OPTION;
     }
-    if option > OUT {
+    if option > READ {
         return UNKNOWN_OPTION;
     }
     unless(name.len() > 0, NO_VALUE)
@@ -287,7 +289,7 @@ fn fault_alone(option: usize, valued: bool, followed: bool) -> usize
 fn fault_last(option: usize) -> usize
     ensures { λ r. ⌜ r ≡ faultLast option ⌝ }
 {
-    if option <= OUT {
+    if option <= READ {
         NO_VALUE
     } else {
         UNKNOWN_OPTION

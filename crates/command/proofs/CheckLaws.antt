@@ -1,8 +1,9 @@
 -- What the words say, case by case.
-use mathlib.Core.Bool.{Bool, true, false, _||_}
+use mathlib.Core.Bool.{Bool, true, false, not, _||_}
 use mathlib.Core.List.{List, []}
 use mathlib.Core.Path.{_≡_, sym, ap, subst, _∙_}
-use Prim.Native.Nat.{ℕ, _≤_, _<_}
+use Prim.Native.Nat.{ℕ, _+_, _≤_, _<_}
+use native.Mathlib.Numerals.{add-one}
 use borrow.Author.Tests.{eq-eqb, ne-eqb}
 use lib.ListN.{length, drop}
 use Rattle.leaves.specs.Texts.{bytesOf}
@@ -12,9 +13,28 @@ use Rattle.arguments.proofs.OptionLaws.{is-some}
 use Rattle.arguments.proofs.Pieces.{words-end}
 use Rattle.messages.specs.Messages.{Says}
 use Rattle.messages.proofs.MessageLaws.{says-as}
-use Rattle.command.specs.Commands.{faultTextAt, jointFault, jointText, helpText, versionText, asksHelp, checkStatus, checkText}
+use Rattle.command.specs.Commands.{firstFound, oneGiven, asksWriting, readFault, writeFault, faultTextAt, jointFault, jointText, helpText, versionText, asksHelp, checkStatus, checkText}
 use Rattle.command.specs.Runs.{toldAnswer, Checked}
 use Rattle.command.specs.declared.CommandAnswer.{CommandAnswer}
+
+-- one option more
+pub one-more : (ws : List (List ℕ)) (from i : ℕ) (a b r : Bool) → a ≡ oneGiven from i ws → b ≡ isGiven (from + i) ws → r ≡ (a || b) → r ≡ oneGiven from (i + 1) ws
+unfolding oneGiven
+one-more ws from i a b r p q e = rw (add-one i) (e ∙ rw (p, q))
+
+-- the tests of a command that reads
+pub read-joined : (ws : List (List ℕ)) (x y z behind writing csv : Bool) (a r : ℕ) → x ≡ oneGiven 0 6 ws → y ≡ oneGiven 10 8 ws → z ≡ oneGiven 19 4 ws → behind ≡ (y || z) → writing ≡ (x || behind)
+    → a ≡ firstFound 0 writing 9 → csv ≡ isGiven 18 ws → r ≡ firstFound a (not csv) 10 → r ≡ readFault ws
+unfolding readFault asksWriting bytesOf optionNames optionNamed placeAmong alike upTo
+read-joined ws x y z behind writing csv a r qx qy qz qb qw qa qc qr = rw (qr, qc, qa, qw, qb, qz, qy, qx)
+
+pub joint-reads : (ws : List (List ℕ)) → isGiven 23 ws ≡ true → readFault ws ≡ jointFault ws
+unfolding jointFault bytesOf optionNames optionNamed placeAmong alike upTo
+joint-reads ws e = rw e
+
+pub joint-writes : (ws : List (List ℕ)) → isGiven 23 ws ≡ false → writeFault ws ≡ jointFault ws
+unfolding jointFault bytesOf optionNames optionNamed placeAmong alike upTo
+joint-writes ws e = rw e
 
 -- an answer with the status and the message that the words have
 pub checked : {ws : List (List ℕ)} {was later text : List ℕ} {r : CommandAnswer} {status n : ℕ} → r ≡ toldAnswer status n → status ≡ checkStatus ws → text ≡ checkText ws → Says was 0 text later n

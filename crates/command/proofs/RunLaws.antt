@@ -152,7 +152,7 @@ module _ (ws : List (List ℕ)) (plane palette icc linked cells was later textWa
       (subst (λ (s : EncodeSource). Encodes ws (called s (optionsAsked ws) plane palette icc linked) was later textWas textLater answer) f r)
 
 -- the words of a command that is run have no message
-no-message : (ws : List (List ℕ)) → checkStatus ws ≡ 3 → checkText ws ≡ []
+pub no-message : (ws : List (List ℕ)) → checkStatus ws ≡ 3 → checkText ws ≡ []
 unfolding checkStatus checkText
 no-message ws e = go (isNone (firstFault ws)) (asksHelp ws) (isGiven (optionNamed (bytesOf "--version")) ws) (eqb (jointFault ws) 0) e
   where
@@ -164,7 +164,7 @@ no-message ws e = go (isNone (firstFault ws)) (asksHelp ws) (isGiven (optionName
     go false b c d q = let z : ⊥ = omega arith in absurd z
 
 module _ {ws : List (List ℕ)} {textWas textLater : List ℕ} {r : CommandAnswer} (checked : Checked ws textWas textLater r) where
-  status-is : r .status ≡ checkStatus ws
+  pub status-is : r .status ≡ checkStatus ws
   status-is = ap (λ (x : CommandAnswer). x .status) (checked .numbers)
 
   module _ (plane palette icc linked cells was : List ℕ) where

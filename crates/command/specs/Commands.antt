@@ -1,7 +1,8 @@
 -- What a command's words alone decide: the status, and the message.
-use mathlib.Core.Bool.{Bool, cond, not, _&&_, _||_}
+use mathlib.Core.Bool.{Bool, false, cond, not, _&&_, _||_}
 use mathlib.Core.List.{List, [], _∷_, map}
-use Prim.Native.Nat.{ℕ, _+_}
+use Prim.Native.Nat.{ℕ, zero, suc, _+_, _-_}
+use Prim.Native.String.{String}
 use lib.Dec.{eqb, ltb}
 use Rattle.leaves.specs.Formats.{isIndexed}
 use Rattle.leaves.specs.Texts.{bytesOf, joined}
@@ -35,9 +36,9 @@ faultTextAt ws = filled (upTo 61 (first ws)) (valueIn ws) [] [] (itemAt faultLin
 unfoldable pub firstFound : ℕ → Bool → ℕ → ℕ
 firstFound found test number = cond (eqb found 0) (cond test number 0) found
 
--- the first that applies, by number; 0 where none does
-unfoldable pub jointFault : List (List ℕ) → ℕ
-jointFault ws =
+-- of a command that writes: the first that applies, by number; 0 where none does
+unfoldable pub writeFault : List (List ℕ) → ℕ
+writeFault ws =
     let plane = isGiven (numbered "--plane") ws in
     let csv = isGiven (numbered "--csv") ws in
     let size = isGiven (numbered "--width") ws || (isGiven (numbered "--height") ws || isGiven (numbered "--stride") ws) in
@@ -49,6 +50,28 @@ jointFault ws =
     let f = firstFound e (csv && not (isIndexed (formatAsked ws))) 6 in
     let g = firstFound f (isGiven (numbered "--palette") ws && isGiven (numbered "--sample-palette") ws) 7 in
     firstFound g (not (isGiven (numbered "--out") ws)) 8
+
+-- whether one of n options from a number on is given
+unfoldable pub oneGiven : ℕ → ℕ → List (List ℕ) → Bool
+oneGiven from zero ws = false
+oneGiven from (suc n) ws = oneGiven from n ws || isGiven (from + n) ws
+
+-- and one of those from a name to another
+abbrev pub oneFrom : String → String → List (List ℕ) → Bool
+oneFrom first last ws = oneGiven (numbered first) (numbered last + 1 - numbered first) ws
+
+-- whether a word says how to write: all options do but --csv, --read, help and the version
+unfoldable pub asksWriting : List (List ℕ) → Bool
+asksWriting ws = oneFrom "--top-down" "--sample-palette" ws || (oneFrom "--format" "--plane" ws || oneFrom "--palette" "--out" ws)
+
+-- of a command that reads: the first that applies, as above
+unfoldable pub readFault : List (List ℕ) → ℕ
+readFault ws =
+    let a = firstFound 0 (asksWriting ws) 9 in
+    firstFound a (not (isGiven (numbered "--csv") ws)) 10
+
+unfoldable pub jointFault : List (List ℕ) → ℕ
+jointFault ws = cond (isGiven (numbered "--read") ws) (readFault ws) (writeFault ws)
 
 unfoldable pub jointLines : List (List ℕ)
 jointLines =
@@ -62,6 +85,8 @@ jointLines =
     ∷ "--csv is for Pal8, Indexed4, Indexed2 and Indexed1 alone\n"
     ∷ "--palette and --sample-palette are both given\n"
     ∷ "--out FILE is missing\n"
+    ∷ "--read goes with --csv FILE alone\n"
+    ∷ "--csv FILE is missing\n"
     ∷ [])
 
 unfoldable pub jointText : ℕ → List ℕ
@@ -74,6 +99,7 @@ helpLines =
     map bytesOf
     ("Usage: bmp_writer --plane FILE --width N --height N [OPTION ..] --out FILE"
     ∷ "       bmp_writer --csv FILE [OPTION ..] --out FILE"
+    ∷ "       bmp_writer --read FILE --csv OUT"
     ∷ ""
     ∷ "Encodes a raw plane, or the indices of a sheet, as a BMP file, and prints its format, its bytes and the"
     ∷ "checksum of `cksum`. The exit status is 0, or 1 where the picture is refused, or 2 where the command is not"
@@ -97,6 +123,7 @@ helpLines =
     ∷ "  --linked-icc FILE       a linked profile's bytes, taken before an embedded one"
     ∷ "  --no-embed-icc          --icc is not written"
     ∷ "  --rendering-intent N    of a file with a profile [4]"
+    ∷ "  --read FILE             a BMP file, whose cells go to OUT: an index, or red, green, blue and alpha each"
     ∷ "  --help, -h, --version"
     ∷ ""
     ∷ "A value is the next word, or follows a = as in --width=200; -- may end the options. Numbers are decimal, or"
@@ -126,11 +153,12 @@ checkText ws =
     (cond (asksHelp ws) helpText (cond (isGiven (numbered "--version") ws) versionText (cond (eqb (jointFault ws) 0) [] (jointText (jointFault ws)))))
     (faultTextAt (firstFault ws))
 
--- ---- the files: 0 the plane, 1 the sheet, 2 the palette, 3 the embedded and 4 the linked profile, 5 the file to write
+-- ---- the files: 0 the plane, 1 the sheet, 2 the palette, 3 the embedded and 4 the linked profile, 5 the file to write,
+-- 6 the file to read, whose sheet goes to 1
 
 -- a profile that will not be written is not read
 unfoldable pub isSkipped : ℕ → List (List ℕ) → Bool
 isSkipped file ws = eqb file 3 && (isGiven (numbered "--no-embed-icc") ws || isGiven (numbered "--linked-icc") ws)
 
 unfoldable pub fileNamed : ℕ → List (List ℕ) → List ℕ
-fileNamed file ws = cond (ltb 5 file) [] (cond (isSkipped file ws) [] (valueOf (numbered "--plane" + file) ws))
+fileNamed file ws = cond (ltb 6 file) [] (cond (isSkipped file ws) [] (valueOf (numbered "--plane" + file) ws))

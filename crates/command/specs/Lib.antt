@@ -1,3 +1,4 @@
 pub mod Sample
 pub mod Commands
 pub mod Runs
+pub mod SheetReads

@@ -61,6 +61,9 @@ causes =
     ∷ "the file would be over 4294967295 bytes"
     ∷ "the buffer is shorter than the file's bound"
     ∷ "neither the stream nor the plain file fits in 4294967295 bytes"
+    ∷ "the head is one that the writer never writes"
+    ∷ "a byte of header, masks, table, rows or profile lies outside the file"
+    ∷ "the stream steps over a row's end, ends too early or uses a delta code"
     ∷ [])
 
 -- where the size query passes: more bytes than the rows take, unless more may follow

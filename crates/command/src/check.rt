@@ -1,13 +1,14 @@
 // What a command's words alone decide.
 ghost use mathlib.Core.Path.{_≡_};
-ghost use Prim.Native.Nat.{_≤_};
+ghost use Prim.Native.Nat.{_+_, _≤_};
 ghost use lib.ListN.{length, drop};
 ghost use Rattle.arguments.specs.Words.{wordsOf};
 ghost use Rattle.messages.specs.Messages.{Says};
-ghost use Rattle.command.specs.Commands.{firstFound, jointFault, faultTextAt, jointText, helpText, versionText, fileNamed};
+ghost use Rattle.command.specs.Commands.{firstFound, writeFault, oneGiven, readFault, jointFault, faultTextAt, jointText, helpText, versionText, fileNamed};
 ghost use Rattle.command.specs.Runs.{Checked, toldAnswer};
 use crate::CommandAnswer;
 use arguments::options::CSV;
+use arguments::options::FORMAT;
 use arguments::options::HEIGHT;
 use arguments::options::HELP;
 use arguments::options::LINKED_ICC;
@@ -15,9 +16,11 @@ use arguments::options::NO_EMBED_ICC;
 use arguments::options::OUT;
 use arguments::options::PALETTE;
 use arguments::options::PLANE;
+use arguments::options::READ;
 use arguments::options::SAMPLE_PALETTE;
 use arguments::options::SHORT_HELP;
 use arguments::options::STRIDE;
+use arguments::options::TOP_DOWN;
 use arguments::options::VERSION;
 use arguments::options::WIDTH;
 use arguments::options::fault_at;
@@ -43,9 +46,9 @@ fn first_found(found: usize, test: bool, number: usize) -> usize
     if test { number } else { 0 }
 }
 
-// What is missing, or does not go together, by number; 0 where all is well.
-fn joint_fault(words: &[u8]) -> usize
-    ensures { λ r. ⌜ r ≡ jointFault (wordsOf (now (words .entry))) ⌝ }
+// What is missing, or does not go together, of a command that writes, by number; 0 where all is well.
+fn write_fault(words: &[u8]) -> usize
+    ensures { λ r. ⌜ r ≡ writeFault (wordsOf (now (words .entry))) ⌝ }
 {
     let plane = is_given(words, PLANE);
     let csv = is_given(words, CSV);
@@ -66,6 +69,41 @@ fn joint_fault(words: &[u8]) -> usize
         7,
     );
     first_found(g, !is_given(words, OUT), 8)
+}
+
+// Whether one of some options from a number on is given.
+fn one_given(words: &[u8], from: usize, count: usize) -> bool
+    requires { ⌜ from + count ≤ 24 ⌝ }
+    ensures { λ r. ⌜ r ≡ oneGiven from count (wordsOf (now (words .entry))) ⌝ }
+{
+    let mut given = false;
+    let mut i = 0;
+    while i < count {
+        given = either(given, is_given(words, from + i));
+        i += 1;
+    }
+    given
+}
+
+// The same of a command that reads.
+fn read_fault(words: &[u8]) -> usize
+    ensures { λ r. ⌜ r ≡ readFault (wordsOf (now (words .entry))) ⌝ }
+{
+    let writing = either(
+        one_given(words, TOP_DOWN, 6),
+        either(one_given(words, FORMAT, 8), one_given(words, PALETTE, 4)),
+    );
+    let a = first_found(0, writing, 9);
+    first_found(a, !is_given(words, CSV), 10)
+}
+
+fn joint_fault(words: &[u8]) -> usize
+    ensures { λ r. ⌜ r ≡ jointFault (wordsOf (now (words .entry))) ⌝ }
+{
+    if is_given(words, READ) {
+        return read_fault(words);
+    }
+    write_fault(words)
 }
 
 // Says what is wrong with the option at a place.
@@ -104,7 +142,9 @@ fn tell_joint(fault: usize, text: &mut [u8]) -> usize
         |--csv takes width, height and stride from the sheet\n\
         |--csv is for Pal8, Indexed4, Indexed2 and Indexed1 alone\n\
         |--palette and --sample-palette are both given\n\
-        |--out FILE is missing\n";
+        |--out FILE is missing\n\
+        |--read goes with --csv FILE alone\n\
+        |--csv FILE is missing\n";
     tell_line(text, item(lines, fault, b'|'))
 }
 
@@ -115,6 +155,7 @@ fn tell_help(text: &mut [u8]) -> usize
         text,
         b"Usage: bmp_writer --plane FILE --width N --height N [OPTION ..] --out FILE
        bmp_writer --csv FILE [OPTION ..] --out FILE
+       bmp_writer --read FILE --csv OUT
 
 Encodes a raw plane, or the indices of a sheet, as a BMP file, and prints its format, its bytes and the
 checksum of `cksum`. The exit status is 0, or 1 where the picture is refused, or 2 where the command is not
@@ -138,6 +179,7 @@ understood or a file cannot be read or written; FILE is then as it was.
   --linked-icc FILE       a linked profile's bytes, taken before an embedded one
   --no-embed-icc          --icc is not written
   --rendering-intent N    of a file with a profile [4]
+  --read FILE             a BMP file, whose cells go to OUT: an index, or red, green, blue and alpha each
   --help, -h, --version
 
 A value is the next word, or follows a = as in --width=200; -- may end the options. Numbers are decimal, or
@@ -190,7 +232,7 @@ pub fn check(words: &[u8], text: &mut [u8]) -> CommandAnswer
 pub fn file_name<'a>(words: &'a [u8], file: u32) -> &'a [u8]
     ensures { λ r. ⌜ now r ≡ fileNamed file (wordsOf (now (words .entry))) ⌝ }
 {
-    if file > 5 {
+    if file > 6 {
         return &words[0..0];
     }
     if both(

@@ -1,15 +1,22 @@
 // The command on memory that the caller lends: what its words ask for, the files it needs, and its run. A front in C, or
 // another program, reads and writes the files. `clients/c/bmp_command.h` declares the same.
+ghost use mathlib.Core.Path.{_≡_};
 ghost use Rattle.arguments.specs.Words.{wordsOf};
 ghost use Rattle.messages.specs.Messages.{Says};
+ghost use Rattle.reader.specs.Answers.{sizesFor};
+ghost use Rattle.reader.specs.Refusals.{firstApplying, openRows};
 ghost use Rattle.command.specs.Commands.{fileNamed};
 ghost use Rattle.command.specs.Runs.{Checked, Ran};
+ghost use Rattle.command.specs.SheetReads.{lentSizes, ReadRan};
 use crate::check::check;
 use crate::check::file_name;
+use crate::reading::lent_sizes;
+use crate::reading::run_reading;
 use crate::run::run;
 use messages::message::tell;
 
 pub mod check;
+pub mod reading;
 pub mod run;
 pub mod sample;
 
@@ -28,6 +35,16 @@ pub struct CommandAnswer {
     pub refusal: u32,
 }
 
+// What must be lent to read a file. 32 bytes.
+#[repr(C)]
+pub struct CommandSizes {
+    pub head_bytes: u64,
+    pub table_bytes: u64,
+    pub cell_numbers: u64,
+    // Enough for the sheet.
+    pub out_bytes: u64,
+}
+
 // What the words alone say: help, the version, or what is wrong with them; 3 where the command is to be run.
 #[no_mangle]
 pub extern "C" fn bmp_command_check(words: &[u8], text: &mut [u8]) -> CommandAnswer
@@ -37,7 +54,8 @@ pub extern "C" fn bmp_command_check(words: &[u8], text: &mut [u8]) -> CommandAns
 }
 
 // Puts the name of a file into `name`, as much of it as fits, and answers its bytes; 0 where the command neither reads
-// nor writes it. 0 the plane, 1 the sheet, 2 the palette, 3 the embedded and 4 the linked profile, 5 the file to write.
+// nor writes it. 0 the plane, 1 the sheet, 2 the palette, 3 the embedded and 4 the linked profile, 5 the file to write,
+// 6 the file to read, whose sheet goes to 1.
 #[no_mangle]
 pub extern "C" fn bmp_command_file(words: &[u8], file: u32, name: &mut [u8]) -> u64
     ensures { λ r. ⌜ Says (now (name .entry)) 0 (fileNamed file (wordsOf (now (words .entry)))) (now (name .exit)) r ⌝ }
@@ -61,4 +79,29 @@ pub extern "C" fn bmp_command<'a>(
     ensures { λ r. ⌜ Ran (wordsOf (now (words .entry))) (now (plane .entry)) (now (palette .entry)) (now (icc .entry)) (now («linked_icc» .entry)) (now (cells .entry)) (now (out .entry)) (now (out .exit)) (now (text .entry)) (now (text .exit)) r ⌝ }
 {
     run(words, plane, palette, icc, linked_icc, cells, out, text)
+}
+
+// What must be lent to read a file; all 0 where it is refused.
+#[no_mangle]
+pub extern "C" fn bmp_command_read_sizes(file: &[u8]) -> CommandSizes
+    ensures { λ r. ⌜ r ≡ lentSizes (sizesFor (firstApplying (openRows (now (file .entry)))) (now (file .entry))) ⌝ }
+{
+    lent_sizes(file)
+}
+
+// Runs a command that reads: the cells of `file` go to `out` as a sheet. `head`, `table` and `cells` hold later what the
+// reader puts there.
+#[no_mangle]
+pub extern "C" fn bmp_command_read(
+    words: &[u8],
+    file: &[u8],
+    head: &mut [u8],
+    table: &mut [u8],
+    cells: &mut [u32],
+    out: &mut [u8],
+    text: &mut [u8],
+) -> CommandAnswer
+    ensures { λ r. ⌜ ReadRan (wordsOf (now (words .entry))) (now (file .entry)) (now (head .entry)) (now (table .entry)) (now (cells .entry)) (now (head .exit)) (now (table .exit)) (now (cells .exit)) (now (out .entry)) (now (out .exit)) (now (text .entry)) (now (text .exit)) r ⌝ }
+{
+    run_reading(words, file, head, table, cells, out, text)
 }

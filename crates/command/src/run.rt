@@ -7,7 +7,6 @@ ghost use Rattle.arguments.specs.Options.{isGiven, numbered, optionsAsked};
 ghost use Rattle.arguments.specs.Words.{itemAt, wordsOf};
 ghost use mathlib.Core.List.{[]};
 ghost use Rattle.leaves.specs.Formats.{writtenName};
-ghost use Rattle.leaves.specs.Refusals.{numberOf};
 ghost use Rattle.messages.specs.Checksum.{cksum};
 ghost use Rattle.messages.specs.Messages.{decimal, filled, Says};
 ghost use Rattle.planner.specs.Answers.{boundBytes};
@@ -37,7 +36,6 @@ use leaves::checks::below_product;
 use leaves::encoder::EncodeSource;
 use leaves::encoder::EncodedBmpFormat;
 use leaves::encoder::written_names;
-use leaves::error::Refusal;
 use leaves::image::BmpPixelFormat;
 use messages::checksum::checksum;
 use messages::message::in_decimal;
@@ -90,8 +88,9 @@ fn tell_written(name: &[u8], format: EncodedBmpFormat, file: &[u8], text: &mut [
     )
 }
 
-fn tell_refusal(why: Refusal, text: &mut [u8]) -> usize
-    ensures { λ r. ⌜ Says (now (text .entry)) 0 (filled (decimal (numberOf why)) (itemAt causes (numberOf why)) [] [] refusedLine) (now (text .exit)) r ⌝ }
+// Says why something is refused, by the table's number.
+pub(crate) fn tell_refused(number: u32, text: &mut [u8]) -> usize
+    ensures { λ r. ⌜ Says (now (text .entry)) 0 (filled (decimal number) (itemAt causes number) [] [] refusedLine) (now (text .exit)) r ⌝ }
 {
     let causes = b"|width or height is 0\
         |width or height is over 2147483647\
@@ -108,8 +107,10 @@ fn tell_refusal(why: Refusal, text: &mut [u8]) -> usize
         |the stride is below width times the bytes of a pixel\
         |the file would be over 4294967295 bytes\
         |the buffer is shorter than the file's bound\
-        |neither the stream nor the plain file fits in 4294967295 bytes";
-    let number = why.number();
+        |neither the stream nor the plain file fits in 4294967295 bytes\
+        |the head is one that the writer never writes\
+        |a byte of header, masks, table, rows or profile lies outside the file\
+        |the stream steps over a row's end, ends too early or uses a delta code";
     let a = in_decimal(number as u64);
     let digits = a.digits;
     let cause = item(causes, number as usize, b'|');
@@ -246,13 +247,14 @@ fn answer(
             }
         }
         Encoded::Refused(why) => {
-            let n = tell_refusal(why, text);
+            let number = why.number();
+            let n = tell_refused(number, text);
             CommandAnswer {
                 bytes: 0,
                 bound: bound as u64,
                 text: n as u64,
                 status: 1,
-                refusal: why.number(),
+                refusal: number,
             }
         }
     }

@@ -5,6 +5,9 @@ use mathlib.Core.Path.{_≡_, refl}
 use Rattle.leaves.specs.Texts.{bytesOf}
 use Rattle.arguments.specs.Numbers.{digitOf, digitsFrom, digitsOf, numberOf}
 use Rattle.arguments.specs.Words.{upTo, onto, pieces, itemsOf, alike}
+use Rattle.leaves.specs.Lists.{cat}
+use Rattle.messages.specs.Messages.{decimalIn, decimal}
+use Rattle.sheets.specs.SheetTexts.{markBehind, entryText, sheetText}
 use Rattle.sheets.specs.Sheets.{isSeparator, separatorOf, withoutMark, linesOf, withoutReturn, afterBlanks, indexOf, rowOf, rowsOf, sheetRows, widthOf, areIndices, isGrid}
 
 -- commas, semicolons with CR LF and no end, a tab beside a blank, one column, no row, and a cell that is no number
@@ -22,3 +25,12 @@ mark-skipped = refl
 pub grids-hold : map (λ rows. isGrid 15 (widthOf rows) rows) (((1 ∷ 15 ∷ []) ∷ (0 ∷ 3 ∷ []) ∷ []) ∷ ((1 ∷ 16 ∷ []) ∷ []) ∷ ((1 ∷ 2 ∷ []) ∷ (3 ∷ []) ∷ []) ∷ [] ∷ []) ≡ true ∷ false ∷ false ∷ true ∷ []
 unfolding widthOf areIndices isGrid
 grids-hold = refl
+
+-- two lines of two numbers, and one of one
+pub texts-hold : sheetText 2 (7 ∷ 10 ∷ 4294967295 ∷ 0 ∷ []) ≡ bytesOf "7,10\n4294967295,0\n"
+unfolding bytesOf decimalIn decimal cat markBehind entryText sheetText
+texts-hold = refl
+
+pub text-holds : sheetText 1 (255 ∷ []) ≡ bytesOf "255\n"
+unfolding bytesOf decimalIn decimal cat markBehind entryText sheetText
+text-holds = refl

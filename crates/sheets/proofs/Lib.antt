@@ -2,3 +2,4 @@ pub mod SheetLaws
 pub mod CellLoop
 pub mod RowLoop
 pub mod Examples
+pub mod TextLoop

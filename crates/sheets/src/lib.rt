@@ -1,4 +1,4 @@
-// A sheet of indices: rows of numbers in a text, as a spreadsheet writes them out.
+// A sheet: rows of numbers in a text, as a spreadsheet writes them out. Indices are read, and numbers written.
 ghost use mathlib.Core.Path.{_≡_};
 ghost use mathlib.Core.List.{[], map};
 ghost use Prim.Native.Nat.{_+_, _-_, _≤_};
@@ -13,6 +13,8 @@ use arguments::words::item;
 use arguments::words::items;
 use arguments::words::part;
 use arguments::words::same;
+
+pub mod write;
 
 pub enum Sheet {
     // A grid: cells in a row, rows, and all cells.

@@ -17,13 +17,13 @@ module _ (option : ℕ) (name : List ℕ) where
   before h = rw (lt-leb 17 option h)
 
   module _ (h : 17 ≤ option) where
-    behind : 22 < option → 1 ≡ faultOfName option name
+    behind : 23 < option → 1 ≡ faultOfName option name
     unfolding faultOfName bytesOf optionNames optionNamed placeAmong alike upTo
-    behind k = rw (le-leb 17 option h, lt-leb option 22 k)
+    behind k = rw (le-leb 17 option h, lt-leb option 23 k)
 
-    names : option ≤ 22 → unless (ltb 0 (length name)) 2 ≡ faultOfName option name
+    names : option ≤ 23 → unless (ltb 0 (length name)) 2 ≡ faultOfName option name
     unfolding faultOfName bytesOf optionNames optionNamed placeAmong alike upTo
-    names k = rw (le-leb 17 option h, le-leb option 22 k)
+    names k = rw (le-leb 17 option h, le-leb option 23 k)
 
 returns : tie.Need-returns
 returns c = before (c .before .before .args .option) (c .before .before .args .name .now) (c .if1 .taken)

@@ -1,3 +1,8 @@
+use Rattle.command.specs.Runs.{causes, refusedLine}
+use Rattle.messages.specs.Messages.{decimal, filled}
+use Rattle.arguments.specs.Words.{itemAt}
+use Prim.Native.Nat.{ℕ}
+use mathlib.Core.List.{[]}
 use mathlib.Core.Path.{sym, ap, _∙_}
 use native.Mathlib.Omega.{arith}
 use borrow.Author.Needs.{needs}
@@ -23,11 +28,11 @@ tell-written-requires c κs = omega arith
 enum-known-encoded-2 : tie.Need-enum-known-encoded-2
 enum-known-encoded-2 c = search needs
 
-tell-refusal-requires : tie.Need-tell-refusal-requires
-tell-refusal-requires c κs = omega arith
-
 number-requires : tie.Need-number-requires
 number-requires c κs = omega arith
+
+tell-refused-requires : tie.Need-tell-refused-requires
+tell-refused-requires c κs = omega arith
 
 same-length : tie.Need-same-length
 same-length c = search needs
@@ -47,13 +52,7 @@ same-length-2 : tie.Need-same-length-2
 same-length-2 c = search needs
 
 returns-2 : tie.Need-returns-2
-returns-2 c =
-    let a = c .before .before .before .before .before .before .before .before .before .before .before .args in
-    let t = c .before .before .before .before .before .before .encoded2 .given in
-    let said = c .before .before .before .tell-refusal in (
-      (λ z. record { bytes = 0; bound = a .bound; text = said .result; status = 1; refusal = c .number .ensures z }) ∙ sym (ap (writtenAnswer (a .bound) (said .result)) (t .1)),
-      says-as (refused-text (wordsOf (a .words .now)) (a .out .now) (t .0 .0) (a .encoded) (t .1)) (said .ensures),
-    )
+returns-2 c = let a = c .before .before .before .before .before .before .before .before .before .before .before .args in let t = c .before .before .before .before .before .before .encoded2 .given in let number = c .before .before .before .before .number in let said = c .before .before .tell-refused in ((λ z. record { bytes = 0; bound = a .bound; text = said .result; status = 1; refusal = number .ensures z }) ∙ sym (ap (writtenAnswer (a .bound) (said .result)) (t .1)), says-as (ap (λ (n : ℕ). filled (decimal n) (itemAt causes n) [] [] refusedLine) (number .ensures) ∙ refused-text (wordsOf (a .words .now)) (a .out .now) (t .0 .0) (a .encoded) (t .1)) (said .ensures))
 
 pub answer-spec : {M : Type 1} → statement M
 answer-spec =
@@ -64,8 +63,8 @@ answer-spec =
     head-of-requires
     tell-written-requires
     enum-known-encoded-2
-    tell-refusal-requires
     number-requires
+    tell-refused-requires
     same-length
     returns
     same-length-2

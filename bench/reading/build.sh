@@ -1,0 +1,39 @@
+#!/usr/bin/env bash
+# bash bench/reading/build.sh: builds the damage driver and the benchmark against target/staticlib/libcapi.a.
+# OUT is where they go, target/reading if it is not set. With STANDIN=1 the two reading functions are the model's, in a
+# library of their own, $OUT/libstandin.a (/tmp/libstandin.a if OUT is not set); the writer is still libcapi.a's.
+set -euo pipefail
+here=$(cd "$(dirname "$0")" && pwd)
+root=$(cd "$here/../.." && pwd)
+build=${OUT:-$root/target/reading}
+library=$root/target/staticlib
+# One unit of code: in several, which is rustc's default, the model's loops are not inlined and it is no fair measure.
+compile=(rustc --edition 2024 -O -C codegen-units=1)
+mkdir -p "$build"
+
+link=()
+if [ -n "${STANDIN:-}" ]; then
+    place=${OUT:-/tmp}
+    work=$(mktemp -d)
+    trap 'rm -rf "$work"' EXIT
+    "${compile[@]}" -C panic=abort --crate-type staticlib --crate-name standin -o "$work/whole.a" "$here/standin.rs"
+    # One object with two global names: nothing else in it can meet a name of the program that it is linked into. The
+    # core library's bit code goes, since another LLVM may be unable to read it.
+    names=(bmp_read bmp_read_sizes)
+    ld -r --gc-sections "${names[@]/#/--undefined=}" -o "$work/standin.o" "$work/whole.a"
+    objcopy --strip-debug -R .llvmbc -R .llvmcmd "${names[@]/#/--keep-global-symbol=}" "$work/standin.o"
+    rm -f "$place/libstandin.a"
+    ar rcs "$place/libstandin.a" "$work/standin.o"
+    echo "built $place/libstandin.a"
+    # The library may already have the two names; the first one that is linked counts.
+    link=(-L native="$place" -l static=standin -C link-arg=-Wl,--allow-multiple-definition)
+fi
+if [ ! -f "$library/libcapi.a" ]; then
+    echo "target/staticlib/libcapi.a is missing: run 'rt staticlib capi' in the repository's root" >&2
+    exit 2
+fi
+
+link+=(-L native="$library" -l static=capi)
+"${compile[@]}" --crate-name reading "${link[@]}" -o "$build/reading" "$here/main.rs"
+"${compile[@]}" --crate-name reading_speed "${link[@]}" -o "$build/reading_speed" "$here/speed.rs"
+echo "built $build/reading and $build/reading_speed"
