@@ -8,6 +8,7 @@ pub mod Opens
 pub mod PlainRows
 pub mod ReadBack
 pub mod RowCodes
+pub mod Stops
 pub mod StreamRows
 pub mod Trials
 pub mod Written

@@ -22,6 +22,7 @@ use Rattle.reader.specs.Rows.{cellIn, numbersIn, plainNumbers, streamNum
 use Rattle.reader.specs.Streams.{cellsIn}
 use Rattle.reader.proofs.Heads.{depth-cases, writtenDepth, Sound, sound-at}
 use Rattle.reader.proofs.PlainRows.{bits-fit}
+use Rattle.reader.proofs.Stops.{stops-refused}
 
 -- ---- what is known where 17 and 18 do not apply
 
@@ -200,7 +201,7 @@ stream-numbers file t = numbers-tab (streamCell file t) (t .width) (shownHeight 
 pub fails-coded : (file : List ℕ) (t : Fields) → t ≡ fieldsOf file → isCoded (t .compression) ≡ true
     → isRefused (decode (t .depth) (t .width) (drop (t .offset) file) (shownHeight t - 1)) ≡ streamFails file
 unfolding streamFails
-fails-coded file t e c = rw (← e, c)
+fails-coded file t e c = rw (← e, c) (sym (stops-refused (t .depth) (t .width) (shownHeight t - 1) (drop (t .offset) file)))
 
 pub fails-never : (file : List ℕ) (t : Fields) → t ≡ fieldsOf file → isCoded (t .compression) ≡ false → false ≡ streamFails file
 unfolding streamFails

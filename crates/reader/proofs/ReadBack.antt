@@ -39,9 +39,10 @@ use Rattle.reader.specs.declared.read.Reading as code
 use Rattle.reader.specs.Answers.{Shows, Outcome, Read}
 use Rattle.reader.specs.Numbers.{numbersOf, headIn, tableIn, profileIn, profileAt, profileBytes, tableBytes}
 use Rattle.reader.specs.Numbers as numbers
-use Rattle.reader.specs.Refusals.{isCoded, neverWritten, headerOutside, masksOutside, rowsOutside, outsideFile, buffersTooShort, isRefused, streamFails}
+use Rattle.reader.specs.Refusals.{isCoded, neverWritten, headerOutside, masksOutside, rowsOutside, outsideFile, buffersTooShort, isRefused, stops, streamFails}
 use Rattle.reader.proofs.Calls.{opened-bytes, number-none}
 use Rattle.reader.proofs.Opens.{shown-of, newer-shown}
+use Rattle.reader.proofs.Stops.{stops-refused}
 use Rattle.reader.proofs.Written.{never-applies}
 use Rattle.reader.proofs.WrittenProfile.{profile-whole, profile-read, plain-size}
 
@@ -185,12 +186,13 @@ module _ (i : Input) (call : Call i) where
   fails-none = go (isCoded (fieldsOf file .compression)) refl
     where
       go : (b : Bool) → isCoded (fieldsOf file .compression) ≡ b
-          → (b && isRefused (decode (fieldsOf file .depth) (fieldsOf file .width) (drop (fieldsOf file .offset) file) (shownHeight (fieldsOf file) - 1))) ≡ false
+          → (b && stops (fieldsOf file .depth) (fieldsOf file .width) (shownHeight (fieldsOf file) - 1) (fieldsOf file .width) (drop (fieldsOf file .offset) file) 0) ≡ false
       go false e = refl
       go true e =
           let some = some-cell (fieldsOf file) (i .source .width) (i .source .height) (a .some-width) (a .some-height) (ap (λ (t : Fields). t .width) (fields-read i a)) shown-height in
           let shown : body file (fieldsOf file) ≡ shows (expected i) = sym (newer-opens i a) ∙ demand3 i a .newer-shows in
-          decoded file (fieldsOf file) (decode (fieldsOf file .depth) (fieldsOf file .width) (drop (fieldsOf file .offset) file) (shownHeight (fieldsOf file) - 1)) (expected i) (sym (rw (some, e)) ∙ shown)
+          stops-refused (fieldsOf file .depth) (fieldsOf file .width) (shownHeight (fieldsOf file) - 1) (drop (fieldsOf file .offset) file)
+          ∙ decoded file (fieldsOf file) (decode (fieldsOf file .depth) (fieldsOf file .width) (drop (fieldsOf file .offset) file) (shownHeight (fieldsOf file) - 1)) (expected i) (sym (rw (some, e)) ∙ shown)
 
   -- ---- the table
 

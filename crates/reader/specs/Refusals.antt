@@ -1,12 +1,12 @@
 -- Document 02, A.1: the numbers 17, 18, 15 and 19, one predicate each in its own words, and the first that applies.
-use Prim.Native.Nat.{ℕ, _+_, _-_, _*_, _^_}
+use Prim.Native.Nat.{ℕ, zero, suc, _+_, _-_, _*_, _^_}
 use mathlib.Core.Bool.{Bool, true, false, not, cond, _&&_, _||_}
 use mathlib.Core.List.{List, [], _∷_}
 use lib.Dec.{ltb, leb, eqb}
 use lib.ListN.{length, drop}
 use Rattle.leaves.specs.Masks.{bitfieldsRows}
 use Rattle.leaves.specs.Refusals.{firstNumber}
-use Rattle.format.specs.Decode.{Decoded, filled, refused, decode}
+use Rattle.format.specs.Decode.{Decoded, filled, refused, dataRead}
 use Rattle.format.specs.Readers.{Fields, fieldsOf, wordAt, dwordAt, shownHeight, rowLength}
 use Rattle.reader.specs.Numbers.{headBytes, tableBytes, cellCount, profileBytes, profileAt}
 
@@ -123,17 +123,47 @@ outsideFile file =
 abbrev pub buffersTooShort : Fields → ℕ → ℕ → ℕ → Bool
 buffersTooShort t head table cells = ltb head (headBytes t) || ltb table (tableBytes t) || ltb cells (cellCount t)
 
--- ---- 19
+-- ---- 19: "the stream steps over a row's end, ends a row early, uses a delta code or ends before the last cell"
 
-abbrev pub isRefused : Decoded → Bool
-isRefused (filled cells taken) = false
-isRefused (refused cause) = true
+-- whether the last cell is filled, where `above` rows are above the present one, which has room for `room` cells: "Nothing after the last cell of a
+-- stream is read"
+abbrev pub lastFilled : ℕ → ℕ → Bool
+lastFilled zero zero = true
+lastFilled zero (suc room) = false
+lastFilled (suc above) room = false
+
+-- of a code, by its first byte and the bytes behind it; `next` says it of the rows and the room that are then left, and of how many of those bytes are the code's
+abbrev pub codeStops : ℕ → ℕ → ℕ → ℕ → ℕ → List ℕ → (ℕ → ℕ → ℕ → Bool) → Bool
+-- it ends before the last cell
+codeStops d w above room first [] next = true
+-- a pair steps over the row's end
+codeStops d w above room (suc n) (value ∷ bs) next = ltb room (suc n) || next above (room - suc n) 1
+-- 00 00 ends a row early, or goes to the row above
+codeStops d w above room zero (zero ∷ bs) next = not (eqb room 0) || next (above - 1) w 1
+-- 00 01 ends before the last cell
+codeStops d w above room zero (suc zero ∷ bs) next = true
+-- 00 02 is a delta code
+codeStops d w above room zero (suc (suc zero) ∷ bs) next = true
+-- a block steps over the row's end, or ends before its own cells
+codeStops d w above room zero (suc (suc (suc n)) ∷ bs) next =
+    ltb room (suc (suc (suc n))) || (ltb (length bs * 8) (suc (suc (suc n)) * d) || next above (room - suc (suc (suc n))) (suc (dataRead d (suc (suc (suc n))))))
+
+-- of the bytes from a place on, of which `skip` belong to a code that was read
+unfoldable pub stops : ℕ → ℕ → ℕ → ℕ → List ℕ → ℕ → Bool
+stops d w above room [] skip = not (lastFilled above room)
+stops d w above room (b ∷ bs) (suc skip) = cond (lastFilled above room) false (stops d w above room bs skip)
+stops d w above room (b ∷ bs) zero = cond (lastFilled above room) false (codeStops d w above room b bs (λ a r skip. stops d w a r bs skip))
 
 -- 19
 unfoldable pub streamFails : List ℕ → Bool
 streamFails file =
     let t = fieldsOf file in
-    isCoded (t .compression) && isRefused (decode (t .depth) (t .width) (drop (t .offset) file) (shownHeight t - 1))
+    isCoded (t .compression) && stops (t .depth) (t .width) (shownHeight t - 1) (t .width) (drop (t .offset) file) 0
+
+-- whether a reading of the decoder is refused
+abbrev pub isRefused : Decoded → Bool
+isRefused (filled cells taken) = false
+isRefused (refused cause) = true
 
 -- ---- "The order is 17, 18, 15, 19"
 
