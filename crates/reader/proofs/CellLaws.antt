@@ -1,5 +1,5 @@
 -- Cells as the code computes them are those of the readers.
-use mathlib.Core.Path.{_≡_, refl, sym, subst, _∙_}
+use mathlib.Core.Path.{_≡_, refl, sym, subst}
 use mathlib.Core.Logic.{_⊎_, inl, inr}
 use mathlib.Core.Bool.{true, false, cond}
 use mathlib.Core.List.{List, [], _∷_}
@@ -141,13 +141,3 @@ known-bytes d k n from m e h = subst (λ (z : ℕ). from + (n * z + 7) / 8 ≤ m
 
 pub known-indices : (file was later : List ℕ) (from d k n to : ℕ) → d ≡ k → later ≡ put was to (tab (cellAt k (drop from file)) n) → later ≡ put was to (tab (cellAt d (drop from file)) n)
 known-indices file was later from d k n to e h = subst (λ (z : ℕ). later ≡ put was to (tab (cellAt z (drop from file)) n)) (sym e) h
-
--- the bytes of a word
-pub dword-parts : (file : List ℕ) (p word : ℕ) → ((k : ℕ) → getD file k 0 < 256) → word ≡ dwordAt file p
-    → (word / 65536 % 256 ≡ getD file (p + 2) 0) × (word / 256 % 256 ≡ getD file (p + 1) 0) × (word % 256 ≡ getD file p 0)
-dword-parts file p word bytes e =
-    let q : word ≡ getD file p 0 + 256 * getD file (p + 1) 0 + 65536 * (getD file (p + 2) 0 + 256 * getD file (p + 3) 0) = e ∙ sym (dword-is file p) in
-    let a = bytes p in
-    let b = bytes (p + 1) in
-    let c = bytes (p + 2) in
-    (omega (arith, q, a, b, c), omega (arith, q, a, b), omega (arith, q, a))

@@ -221,31 +221,6 @@ fn cell_word(file: &[u8], at: usize, depth: u16) -> u32
     low + 65536 * (byte(file, at + 2) + 256 * byte(file, at + 3))
 }
 
-// n cells of 4 bytes, blue, green, red, each taken as one word.
-pub(crate) fn put_quads(file: &[u8], from: usize, n: usize, cells: &mut [u32], to: usize)
-    requires { ⌜ from + n * 4 ≤ length (now file) ⌝ }
-    requires { ⌜ to + n * 4 ≤ length (now cells) ⌝ }
-    ensures { λ _. ⌜ now (cells .exit) ≡ put (now (cells .entry)) to (cat (bytesQuad (now (file .entry)) from 4) n) ⌝ }
-{
-    let mut x = 0;
-    let mut p = from;
-    let mut q = to;
-    while x < n {
-        let word = cell_word(file, p, 32);
-        put_four(
-            cells,
-            q,
-            word / 65536 % 256,
-            word / 256 % 256,
-            word % 256,
-            0,
-        );
-        x += 1;
-        p += 4;
-        q += 4;
-    }
-}
-
 // n cells of 16 or 32 bits, by their channels.
 pub(crate) fn put_words(
     file: &[u8],

@@ -19,7 +19,6 @@ use crate::cells::Channels;
 use crate::cells::channel_of;
 use crate::cells::put_bytes;
 use crate::cells::put_indices;
-use crate::cells::put_quads;
 use crate::cells::put_words;
 use crate::checks::alpha_mask;
 use crate::fields::HeadFields;
@@ -96,7 +95,7 @@ fn put_row(
             put_bytes(file, from, 3, width, cells, to);
             return;
         }
-        put_quads(file, from, width, cells, to);
+        put_bytes(file, from, 4, width, cells, to);
         return;
     }
     if depth == 16 {

@@ -32,14 +32,14 @@ same-length-2 c = search needs
 returns-2 : tie.Need-returns-2
 returns-2 c = let a = c .before .before .before .before .before .before .before .before .before .before .before .args in let t = fieldsIn (a .t) in known-quads (now (a .file)) (now (a .cells)) _ t (a .from) (a .to) 24 3 (c .before .before .before .before .if3 .taken) refl (inl refl) (row-bytes t (way t (c .before .before .before .before .before .before .before .before .before .before .before .pre .0)) (c .before .before .before .before .before .before .before .if1 .left) (c .before .before .before .before .before .if2 .taken) .1) (c .before .before .put-bytes .ensures)
 
-put-quads-requires : tie.Need-put-quads-requires
-put-quads-requires c κs = let a = c .before .before .before .before .before .before .before .before .args in let t = fieldsIn (a .t) in (known-size (a .t .width) (a .t .depth) 32 4 (a .from) (length (now (a .file))) (is-32-bytes t (way t (c .before .before .before .before .before .before .before .before .pre .0)) (c .before .before .before .before .if1 .left) (c .before .before .if2 .taken) (c .before .if3 .left)) refl (inr (inr refl)) (c .before .before .before .before .before .before .before .before .pre .1 .1 .1 .0), four-room t (a .to) (length (now (a .cells))) (c .before .before .before .before .if1 .left) (c .before .before .before .before .before .before .before .before .pre .1 .1 .1 .1))
+put-bytes-requires-2 : tie.Need-put-bytes-requires-2
+put-bytes-requires-2 c κs = let a = c .before .before .before .before .before .before .before .before .args in let t = fieldsIn (a .t) in (omega arith, (known-size (a .t .width) (a .t .depth) 32 4 (a .from) (length (now (a .file))) (is-32-bytes t (way t (c .before .before .before .before .before .before .before .before .pre .0)) (c .before .before .before .before .if1 .left) (c .before .before .if2 .taken) (c .before .if3 .left)) refl (inr (inr refl)) (c .before .before .before .before .before .before .before .before .pre .1 .1 .1 .0), four-room t (a .to) (length (now (a .cells))) (c .before .before .before .before .if1 .left) (c .before .before .before .before .before .before .before .before .pre .1 .1 .1 .1)))
 
 same-length-3 : tie.Need-same-length-3
 same-length-3 c = search needs
 
 returns-3 : tie.Need-returns-3
-returns-3 c = let a = c .before .before .before .before .before .before .before .before .before .before .before .args in let t = fieldsIn (a .t) in known-quads (now (a .file)) (now (a .cells)) _ t (a .from) (a .to) 32 4 (is-32-bytes t (way t (c .before .before .before .before .before .before .before .before .before .before .before .pre .0)) (c .before .before .before .before .before .before .before .if1 .left) (c .before .before .before .before .before .if2 .taken) (c .before .before .before .before .if3 .left)) refl (inr refl) (row-bytes t (way t (c .before .before .before .before .before .before .before .before .before .before .before .pre .0)) (c .before .before .before .before .before .before .before .if1 .left) (c .before .before .before .before .before .if2 .taken) .1) (c .before .before .put-quads .ensures)
+returns-3 c = let a = c .before .before .before .before .before .before .before .before .before .before .before .args in let t = fieldsIn (a .t) in known-quads (now (a .file)) (now (a .cells)) _ t (a .from) (a .to) 32 4 (is-32-bytes t (way t (c .before .before .before .before .before .before .before .before .before .before .before .pre .0)) (c .before .before .before .before .before .before .before .if1 .left) (c .before .before .before .before .before .if2 .taken) (c .before .before .before .before .if3 .left)) refl (inr refl) (row-bytes t (way t (c .before .before .before .before .before .before .before .before .before .before .before .pre .0)) (c .before .before .before .before .before .before .before .if1 .left) (c .before .before .before .before .before .if2 .taken) .1) (c .before .before .put-bytes2 .ensures)
 
 put-words-requires : tie.Need-put-words-requires
 put-words-requires c κs = let a = c .before .before .before .before .before .before .before .before .args in let t = fieldsIn (a .t) in (inl refl, ((c .before .before .before .before .before .before .before .before .pre .1 .1 .0), (known-size (a .t .width) (a .t .depth) 16 2 (a .from) (length (now (a .file))) (c .before .if4 .taken) refl (inl refl) (c .before .before .before .before .before .before .before .before .pre .1 .1 .1 .0), four-room t (a .to) (length (now (a .cells))) (c .before .before .before .before .if1 .left) (c .before .before .before .before .before .before .before .before .pre .1 .1 .1 .1))))
@@ -70,7 +70,7 @@ put-row-spec =
     put-bytes-requires
     same-length-2
     returns-2
-    put-quads-requires
+    put-bytes-requires-2
     same-length-3
     returns-3
     put-words-requires
