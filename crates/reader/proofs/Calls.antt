@@ -19,11 +19,11 @@ use Rattle.reader.specs.declared.read.Reading.{Reading}
 use Rattle.reader.specs.declared.read.ReadingSizes.{ReadingSizes}
 use Rattle.reader.specs.Answers.{sizesFor, refusedReading, rowsShown, rowsIn, Outcome, Read}
 use Rattle.reader.specs.Numbers.{numbersOf, numbersEach, cellCount, headBytes, headIn, tableBytes, tableIn, profileAt, profileBytes}
-use Rattle.reader.specs.Refusals.{writtenPair, isCoded, neverWritten, headerOutside, masksOutside, tableOutside, rowsOutside, profileOutside, outsideFile, buffersTooShort, streamFails, firstApplying, openRows, readRows}
+use Rattle.reader.specs.Refusals.{writtenPair, isCoded, neverWritten, outsideFile, buffersTooShort, streamFails, firstApplying, openRows, readRows}
 use Rattle.reader.specs.Rows.{plainNumbers, streamNumbers, WrittenKind}
 use Rattle.reader.specs.Streams.{cellsIn}
 use Rattle.reader.proofs.Heads.{Sound}
-use Rattle.reader.proofs.Opens.{Opened, opened, shown-of, newer-shown, stream-shown, rows-shown, stream-numbers, stored-numbers, fails-coded}
+use Rattle.reader.proofs.Opens.{Opened, or-last, outside-parts, opened, shown-of, newer-shown, stream-shown, rows-shown, stream-numbers, stored-numbers, fails-coded}
 
 -- ---- bytes
 
@@ -114,14 +114,7 @@ module _ (file : List ℕ) where
 
   -- head and table lie in the file
   pub table-inside : outsideFile file ≡ false → headBytes (fieldsOf file) + tableBytes (fieldsOf file) ≤ length file
-  unfolding outsideFile
-  table-inside outside =
-      let n = length file in
-      let t = fieldsOf file in
-      let p1 = or-false (headerOutside n t || masksOutside n t || tableOutside n t || rowsOutside n t) (profileOutside file) outside in
-      let p2 = or-false (headerOutside n t || masksOutside n t || tableOutside n t) (rowsOutside n t) (p1 .0) in
-      let p3 = or-false (headerOutside n t || masksOutside n t) (tableOutside n t) (p2 .0) in
-      ltb-false (length file) (headBytes (fieldsOf file) + tableBytes (fieldsOf file)) (p3 .1)
+  table-inside outside = ltb-false (length file) (headBytes (fieldsOf file) + tableBytes (fieldsOf file)) (outside-parts file outside .2)
 
   -- ---- the readings
 
@@ -186,10 +179,6 @@ product-small t height each s e h =
 
 pub opened-at : (file : List ℕ) (t : Fields) → ((k : ℕ) → getD file k 0 < 256) → t ≡ fieldsOf file → firstApplying (openRows file) ≡ 0 → Opened file t
 opened-at file t bytes e n = let p = open-passes file n in opened file t e (rw e (height-small file bytes)) (p .0) (p .1)
-
-or-last : (b : Bool) → b || false ≡ true → b ≡ true
-or-last true f = refl
-or-last false f = f
 
 -- the depths of a stream
 pub coded-kind : (t : Fields) → Sound t → isCoded (t .compression) ≡ true → ((t .depth ≡ 4) ⊎ (t .depth ≡ 8)) × (t .depth ≤ 8)
@@ -260,11 +249,7 @@ rows-pass file head table cells e = go (neverWritten file) (outsideFile file) (b
     go false false false false e = (refl, refl, refl, refl)
 
 profile-there : (file : List ℕ) → outsideFile file ≡ false → profileAt file + profileBytes file ≤ length file
-unfolding outsideFile
-profile-there file e =
-    let n = length file in
-    let t = fieldsOf file in
-    ltb-false n (profileAt file + profileBytes file) (or-false (headerOutside n t || masksOutside n t || tableOutside n t || rowsOutside n t) (profileOutside file) e .1)
+profile-there file e = ltb-false (length file) (profileAt file + profileBytes file) (outside-parts file e .4)
 
 pub profile-inside : (file head table cells laterHead laterTable laterCells : List ℕ) (r : Reading) → Read file head table cells laterHead laterTable laterCells r
     → r .«profile_at» + r .«profile_bytes» ≤ length file

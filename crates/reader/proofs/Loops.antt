@@ -89,3 +89,8 @@ put-four-is d at r g b a h =
     ∙ ap (λ (k : ℕ). put d3 k (a ∷ [])) three
     ∙ put-cons d3 (at + 3) a [] l3
     ∙ put-nil (set d3 (at + 3) a) (at + 3 + 1))
+
+-- no elements
+pub no-elements : (l : List ℕ) → length l ≡ 0 → [] ≡ l
+no-elements [] e = refl
+no-elements (x ∷ l) e = absurd (omega arith)

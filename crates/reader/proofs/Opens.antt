@@ -21,7 +21,7 @@ use Rattle.reader.specs.Refusals.{writtenPair, isCoded, masksEnd, neverW
 use Rattle.reader.specs.Rows.{cellIn, numbersIn, plainNumbers, streamNumbers}
 use Rattle.reader.specs.Streams.{cellsIn}
 use Rattle.reader.proofs.Heads.{depth-cases, writtenDepth, Sound, sound-at}
-use Rattle.reader.proofs.PlainRows.{bits-fit}
+use Rattle.reader.proofs.PlainRows.{ones-are, bits-fit}
 use Rattle.reader.proofs.Stops.{stops-refused}
 
 -- ---- what is known where 17 and 18 do not apply
@@ -35,25 +35,34 @@ pub record Opened (file : List ℕ) (t : Fields) : Type 0 where
   pub rows : isCoded (t .compression) ≡ false → t .offset + shownHeight t * rowLength (t .width) (t .depth) ≤ length file
   pub profile : profileAt file + profileBytes file ≤ length file
 
-pub opened : (file : List ℕ) (t : Fields) → t ≡ fieldsOf file → t .height < 4294967296 → neverWritten file ≡ false → outsideFile file ≡ false → Opened file t
+-- the parts of 18
+pub outside-parts : (file : List ℕ) → outsideFile file ≡ false
+    → (headerOutside (length file) (fieldsOf file) ≡ false) × (masksOutside (length file) (fieldsOf file) ≡ false) × (tableOutside (length file) (fieldsOf file) ≡ false)
+    × (rowsOutside (length file) (fieldsOf file) ≡ false) × (profileOutside file ≡ false)
 unfolding outsideFile
-opened file t e tall never outside =
+outside-parts file outside =
     let n = length file in
     let u = fieldsOf file in
     let p1 = or-false (headerOutside n u || masksOutside n u || tableOutside n u || rowsOutside n u) (profileOutside file) outside in
     let p2 = or-false (headerOutside n u || masksOutside n u || tableOutside n u) (rowsOutside n u) (p1 .0) in
     let p3 = or-false (headerOutside n u || masksOutside n u) (tableOutside n u) (p2 .0) in
     let p4 = or-false (headerOutside n u) (masksOutside n u) (p3 .0) in
-    let p5 = or-false (ltb n 54) (ltb n (headBytes u)) (p4 .0) in
-    let first : 54 ≤ n = ltb-false n 54 (p5 .0) in
+    (p4 .0, p4 .1, p3 .1, p2 .1, p1 .1)
+
+pub opened : (file : List ℕ) (t : Fields) → t ≡ fieldsOf file → t .height < 4294967296 → neverWritten file ≡ false → outsideFile file ≡ false → Opened file t
+opened file t e tall never outside =
+    let n = length file in
+    let u = fieldsOf file in
+    let p = outside-parts file outside in
+    let first : 54 ≤ n = ltb-false n 54 (or-false (ltb n 54) (ltb n (headBytes u)) (p .0) .0) in
     record {
       fields = e;
       sound = sound-at file t e first tall never;
       first = first;
-      masks = λ m. rw e (ltb-false n (masksEnd (u .compression)) (and-false (eqb (u .compression) 3 || eqb (u .compression) 6) _ (p4 .1) (rw (← e) m)));
-      table = rw e (ltb-false n (headBytes u + tableBytes u) (p3 .1));
-      rows = λ q. rw e (ltb-false n (u .offset + shownHeight u * rowLength (u .width) (u .depth)) (and-false (not (isCoded (u .compression))) _ (p2 .1) (rw (← e, q))));
-      profile = ltb-false n (profileAt file + profileBytes file) (p1 .1);
+      masks = λ m. rw e (ltb-false n (masksEnd (u .compression)) (and-false (eqb (u .compression) 3 || eqb (u .compression) 6) _ (p .1) (rw (← e) m)));
+      table = rw e (ltb-false n (headBytes u + tableBytes u) (p .2));
+      rows = λ q. rw e (ltb-false n (u .offset + shownHeight u * rowLength (u .width) (u .depth)) (and-false (not (isCoded (u .compression))) _ (p .3) (rw (← e, q))));
+      profile = ltb-false n (profileAt file + profileBytes file) (p .4);
     }
 
 -- ---- the newer reader knows what the writer writes
@@ -81,14 +90,14 @@ knows-compression : (c d : ℕ) → writtenPair c d ≡ true → knowsCompressio
 unfolding knowsCompression
 knows-compression c d e = pair-cases (λ c. knowsCompression newer c ≡ true) refl refl refl refl refl c d e
 
+pub or-last : (b : Bool) → b || false ≡ true → b ≡ true
+or-last true f = refl
+or-last false f = f
+
 known-pair : (c d : ℕ) → writtenPair c d ≡ true → pairs c d ≡ true
 unfolding pairs
 known-pair c d e =
     pair-cases (λ k. writtenPair k d ≡ true → pairs k d ≡ true) (λ f. refl) (λ f. or-last (eqb d 8) (or-last (eqb d 8 || false) f)) (λ f. or-last (eqb d 4) f) (λ f. f) (λ f. f) c d e e
-  where
-    or-last : (b : Bool) → b || false ≡ true → b ≡ true
-    or-last true f = refl
-    or-last false f = f
 
 -- ---- the newer reader shows
 
@@ -182,11 +191,6 @@ rows-tab f (suc n) = rows-append (tab f n) (f n ∷ []) ∙ rw (rows-tab f n, ap
 pub numbers-tab : (cell : ℕ → ℕ → Cell) (w h : ℕ) → numbersOf (tab (λ y. tab (λ x. cell y x) w) h) ≡ cat (λ y. cat (λ x. cellNumbers (cell y x)) w) h
 numbers-tab cell w h = rows-tab (λ y. tab (λ x. cell y x) w) h ∙ cat-ext _ _ h (λ y l. row-tab (cell y) w)
 
-ones : (f : ℕ → ℕ) (n : ℕ) → cat (λ x. f x ∷ []) n ≡ tab f n
-unfolding cat tab
-ones f zero = refl
-ones f (suc n) = rw (ones f n)
-
 pub stored-numbers : (file : List ℕ) (t : Fields) → numbersOf (shownWith file t (storedCell file t) .rows) ≡ plainNumbers file t
 unfolding plainNumbers numbersIn cellIn plainCell
 stored-numbers file t = numbers-tab (storedCell file t) (t .width) (shownHeight t)
@@ -194,7 +198,7 @@ stored-numbers file t = numbers-tab (storedCell file t) (t .width) (shownHeight 
 pub stream-numbers : (file : List ℕ) (t : Fields)
     → numbersOf (shownWith file t (streamCell file t) .rows) ≡ streamNumbers (t .width) (shownHeight t) (cellsIn (decode (t .depth) (t .width) (drop (t .offset) file) (shownHeight t - 1)))
 unfolding streamNumbers
-stream-numbers file t = numbers-tab (streamCell file t) (t .width) (shownHeight t) ∙ cat-ext _ _ (shownHeight t) (λ y l. ones _ (t .width))
+stream-numbers file t = numbers-tab (streamCell file t) (t .width) (shownHeight t) ∙ cat-ext _ _ (shownHeight t) (λ y l. ones-are _ (t .width))
 
 -- ---- 19
 

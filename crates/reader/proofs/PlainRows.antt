@@ -65,7 +65,7 @@ way t k = go (plain-pair (t .compression) (t .depth) (k .pair) (k .rows))
 
 -- ---- cells of each kind
 
-ones-are : (f : ℕ → ℕ) (n : ℕ) → cat (λ x. f x ∷ []) n ≡ tab f n
+pub ones-are : (f : ℕ → ℕ) (n : ℕ) → cat (λ x. f x ∷ []) n ≡ tab f n
 unfolding cat tab
 ones-are f zero = refl
 ones-are f (suc n) = rw (ones-are f n)

@@ -41,6 +41,7 @@ use Rattle.reader.specs.Numbers.{numbersOf, headIn, tableIn, profileIn, 
 use Rattle.reader.specs.Numbers as numbers
 use Rattle.reader.specs.Refusals.{isCoded, neverWritten, headerOutside, masksOutside, rowsOutside, outsideFile, buffersTooShort, isRefused, stops, streamFails}
 use Rattle.reader.proofs.Calls.{opened-bytes, number-none}
+use Rattle.reader.proofs.Loops.{no-elements}
 use Rattle.reader.proofs.Opens.{shown-of, newer-shown}
 use Rattle.reader.proofs.Stops.{stops-refused}
 use Rattle.reader.proofs.Written.{never-applies}
@@ -217,15 +218,11 @@ module _ (i : Input) (call : Call i) where
   unfolding tableIn
   table-read = go (eqb (entriesOf i) 0) refl
     where
-      none : (l : List ℕ) → length l ≡ 0 → [] ≡ l
-      none [] e = refl
-      none (x ∷ l) e = absurd (omega arith)
-
       go : (b : Bool) → eqb (entriesOf i) 0 ≡ b → take (tableBytes (fieldsOf file)) (drop (numbers.headBytes (fieldsOf file)) file) ≡ colourTable i
       go true e =
           let z = eqb-true (entriesOf i) 0 e in
           let k : tableBytes (fieldsOf file) ≡ 0 = omega (arith, count-is, z) in
-          rw k (none (colourTable i) (omega (arith, table-length i, z)))
+          rw k (no-elements (colourTable i) (omega (arith, table-length i, z)))
       go false e =
           let z = eqb-false (entriesOf i) 0 e in
           let some : 0 < entriesOf i = omega (arith, z) in

@@ -99,7 +99,7 @@ pub record RowFill (file : List ℕ) (start d w : ℕ) (was : List ℕ) (to : �
   pub so-far : SoFar was to done cells
   pub small : at + 258 * (w - x) ≤ start + 258 * w
 
-is-filled : (r : Decoded) → isRefused r ≡ false → r ≡ filled (cellsIn r) (bytesIn r)
+pub is-filled : (r : Decoded) → isRefused r ≡ false → r ≡ filled (cellsIn r) (bytesIn r)
 is-filled (filled cells taken) e = refl
 is-filled (refused cause) e = absurd (true≢false e)
 

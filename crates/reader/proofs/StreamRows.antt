@@ -1,6 +1,6 @@
 -- A stream's rows, filled in from the bottom up.
 use mathlib.Core.Path.{_≡_, refl, sym, ap, _∙_, subst}
-use mathlib.Core.Bool.{true, false, true≢false}
+use mathlib.Core.Bool.{false}
 use mathlib.Core.List.{List, _++_, append-assoc, append-nil}
 use Prim.Native.Nat.{ℕ, zero, suc, _+_, _-_, _*_, _≤_, _<_}
 use native.Mathlib.Nat.{suc-mul, mul-le-mul-right, zero-add}
@@ -11,13 +11,14 @@ use Rattle.leaves.specs.Lists.{tab, cat}
 use Rattle.leaves.specs.Put.{put}
 use Rattle.leaves.proofs.ListLaws.{length-tab, tab-ext, cat-ext, length-cat}
 use Rattle.leaves.proofs.Puts.{length-put, put-nil}
-use Rattle.format.specs.Decode.{Decoded, filled, refused, readRow, rowsBelow, decode}
+use Rattle.format.specs.Decode.{filled, readRow, rowsBelow, decode}
 use Rattle.format.proofs.RowReading.{row-length}
 use Rattle.format.proofs.StreamReading.{RowAt, decode-rows, rows-last, rows-place}
 use Rattle.format.proofs.Unpacking.{take-tab}
 use Rattle.reader.specs.Refusals.{isRefused}
 use Rattle.reader.specs.Rows.{streamNumbers}
 use Rattle.reader.specs.Streams.{cellsIn, bytesIn}
+use Rattle.reader.proofs.RowCodes.{is-filled}
 
 -- ---- a put before a put
 
@@ -39,10 +40,6 @@ cat-front f zero = sym (append-nil (f 0))
 cat-front f (suc n) = ap (λ (l : List ℕ). l ++ f (suc n)) (cat-front f n) ∙ append-assoc (f 0) (cat (λ k. f (suc k)) n) (f (suc n))
 
 -- ---- the loop
-
-is-filled : (r : Decoded) → isRefused r ≡ false → r ≡ filled (cellsIn r) (bytesIn r)
-is-filled (filled cells taken) e = refl
-is-filled (refused cause) e = absurd (true≢false e)
 
 module _ (file : List ℕ) (d w offset h : ℕ) (some : 0 < h) (good : isRefused (decode d w (drop offset file) (h - 1)) ≡ false) where
   abbrev stream : List ℕ

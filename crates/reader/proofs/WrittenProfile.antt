@@ -25,6 +25,7 @@ use Rattle.format.proofs.HeadFields.{dword-bytes, firstPart, first-length, fiel
 use Rattle.format.proofs.HeadMasks.{afterRest, mode-file}
 use Rattle.reader.specs.Numbers.{hasProfile, profileBytes, profileAt, profileIn}
 use Rattle.reader.proofs.CellLaws.{dword-from}
+use Rattle.reader.proofs.Loops.{no-elements}
 
 -- ---- the fields of a profile
 
@@ -174,10 +175,6 @@ module _ (i : Input) (a : Accepted i) where
   unfolding profileAt
   at-none z = rw (bytes-read, eq-eqb (length (tailOf i)) 0 z)
 
-  none : (l : List ℕ) → length l ≡ 0 → [] ≡ l
-  none [] e = refl
-  none (x ∷ l) e = absurd (omega arith)
-
   -- the profile lies in the file
   pub profile-whole : profileAt file + profileBytes file ≤ length file
   profile-whole = go (eqb (length (tailOf i)) 0) refl
@@ -194,7 +191,7 @@ module _ (i : Input) (a : Accepted i) where
   profile-read = go (eqb (length (tailOf i)) 0) refl
     where
       go : (b : Bool) → eqb (length (tailOf i)) 0 ≡ b → take (profileBytes file) (drop (profileAt file) file) ≡ tailOf i
-      go true e = let z = eqb-true (length (tailOf i)) 0 e in rw (bytes-read, z) (none (tailOf i) z)
+      go true e = let z = eqb-true (length (tailOf i)) 0 e in rw (bytes-read, z) (no-elements (tailOf i) z)
       go false e =
           let z = eqb-false (length (tailOf i)) 0 e in
           let l : drop (headBytes i + rawBytes i) file ≡ tailOf i
