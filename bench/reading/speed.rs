@@ -163,14 +163,24 @@ fn measure(work: &Work, rounds: usize) -> Vec<Times> {
     assert!(expected.refusal == 0 && expected == given && cells == again, "{}: the cells differ", work.name);
     let bytes = noise(work.cells);
     let file = &work.file[..];
-    let mut round = || Times {
-        library: timed(|| {
-            black_box(reader::read(black_box(file), &mut head, &mut table, black_box(&mut cells)));
-        }),
-        model: timed(|| {
-            black_box(model::read(black_box(file), &mut head, &mut table, black_box(&mut cells)));
-        }),
-        widening: timed(|| widen(black_box(&mut cells), black_box(&bytes))),
+    // Each side comes first in every other round, since it finds in the caches what the one before has left there.
+    let mut library_first = false;
+    let mut round = || {
+        let mut times = Times::NONE;
+        library_first = !library_first;
+        for library in [library_first, !library_first] {
+            if library {
+                times.library = timed(|| {
+                    black_box(reader::read(black_box(file), &mut head, &mut table, black_box(&mut cells)));
+                });
+            } else {
+                times.model = timed(|| {
+                    black_box(model::read(black_box(file), &mut head, &mut table, black_box(&mut cells)));
+                });
+            }
+        }
+        times.widening = timed(|| widen(black_box(&mut cells), black_box(&bytes)));
+        times
     };
     (0..PARTS).map(|_| (0..rounds.div_ceil(PARTS)).fold(Times::NONE, |best, _| best.least(round()))).collect()
 }
