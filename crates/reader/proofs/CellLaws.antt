@@ -94,11 +94,6 @@ pub four-bytes : (d : ℕ) → (d ≡ 16) ⊎ (d ≡ 32) → (d ≡ 16 → ⊥) 
 four-bytes d (inl e) n = absurd (n e)
 four-bytes d (inr e) n = rw e (omega arith)
 
-pub dword-is : (file : List ℕ) (at : ℕ)
-    → getD file at 0 + 256 * getD file (at + 1) 0 + 65536 * (getD file (at + 2) 0 + 256 * getD file (at + 3) 0) ≡ dwordAt file at
-unfolding dwordAt wordAt
-dword-is file at = let e : at + 2 + 1 ≡ at + 3 = omega arith in rw e
-
 -- ---- four numbers a cell
 
 pub bytes-length : (file : List ℕ) (from size x : ℕ) → length (bytesQuad file from size x) ≡ 4
@@ -109,9 +104,6 @@ pub bytes-turn : (file is later : List ℕ) (from size x to p q r g b : ℕ) →
     → later ≡ put is q (r ∷ g ∷ b ∷ 0 ∷ []) → later ≡ put is (to + x * 4) (bytesQuad file from size x)
 unfolding bytesQuad
 bytes-turn file is later from size x to p q r g b ep eq er eg eb e = rw (← ep, ← eq, ← er, ← eg, ← eb) e
-
-pub quad-length : (c : Channels) (word : ℕ) → length (quadUnder c word) ≡ 4
-quad-length c word = refl
 
 pub words-turn : (file is later : List ℕ) (c : Channels) (from d x to p q word r g b a : ℕ) → (d ≡ 16) ⊎ (d ≡ 32) → p ≡ from + x * (d / 8) → q ≡ to + x * 4
     → word ≡ cond (eqb d 16) (wordAt file p) (dwordAt file p)

@@ -24,6 +24,7 @@ use Rattle.reader.specs.Channels.{bytesQuad, channelAt, valueUnder, quad
 use Rattle.reader.specs.Numbers.{cellNumbers, numbersEach}
 use Rattle.reader.specs.Refusals.{writtenPair, isCoded}
 use Rattle.reader.specs.Rows.{cellIn, numbersIn, plainNumbers, WrittenKind}
+use Rattle.reader.proofs.Blocks.{the-second}
 use Rattle.reader.proofs.CellLaws.{table-depth}
 use Rattle.reader.proofs.Heads.{depth-cases, mask-depths}
 
@@ -228,14 +229,6 @@ one-room t to m h k = omega (arith, subst (λ (n : ℕ). to + t .width * n ≤ m
 pub four-room : (t : Fields) (to m : ℕ) → 8 < t .depth → to + t .width * numbersEach t ≤ m → to + t .width * 4 ≤ m
 four-room t to m h k = subst (λ (n : ℕ). to + t .width * n ≤ m) (four-each t h) k
 
-pub three-bytes : (d : ℕ) → (d ≡ 24) ⊎ (d ≡ 32) → 3 ≤ d / 8
-three-bytes d (inl e) = rw e (omega arith)
-three-bytes d (inr e) = rw e (omega arith)
-
-pub as-words : {d : ℕ} → (d ≡ 16) ⊎ (d ≡ 32) → (d ≡ 16) ⊎ ((d ≡ 24) ⊎ (d ≡ 32))
-as-words (inl e) = inl e
-as-words (inr e) = inr (inr e)
-
 -- ---- the loop over the rows
 
 -- row y's numbers
@@ -265,20 +258,12 @@ rows-done file was is t y e f = e ∙ ap (λ (n : ℕ). put was 0 (cat (rowAt fi
 
 -- ---- at a depth that is known
 
-other-bytes : {d : ℕ} → (d ≡ 24) ⊎ (d ≡ 32) → (d ≡ 24 → ⊥) → d ≡ 32
-other-bytes (inl e) n = absurd (n e)
-other-bytes (inr e) n = e
+pub is-32-words : (t : Fields) → Way t → 8 < t .depth → (eqb (t .compression) 0 && not (eqb (t .depth) 16)) ≡ false → (t .depth ≡ 16 → ⊥) → t .depth ≡ 32
+is-32-words t k deep e n = the-second (row-words t k deep e) n
 
-other-words : {d : ℕ} → (d ≡ 16) ⊎ (d ≡ 32) → (d ≡ 16 → ⊥) → d ≡ 32
-other-words (inl e) n = absurd (n e)
-other-words (inr e) n = e
-
-module _ (t : Fields) (k : Way t) (deep : 8 < t .depth) where
-  pub is-32-bytes : (eqb (t .compression) 0 && not (eqb (t .depth) 16)) ≡ true → (t .depth ≡ 24 → ⊥) → t .depth ≡ 32
-  is-32-bytes e n = other-bytes (row-bytes t k deep e .0) n
-
-  pub is-32-words : (eqb (t .compression) 0 && not (eqb (t .depth) 16)) ≡ false → (t .depth ≡ 16 → ⊥) → t .depth ≡ 32
-  is-32-words e n = other-words (row-words t k deep e) n
+pub bytes-each : (d : ℕ) → (d ≡ 24) ⊎ (d ≡ 32) → (d / 8 ≡ 3) ⊎ (d / 8 ≡ 4)
+bytes-each d (inl e) = inl (omega (arith, e))
+bytes-each d (inr e) = inr (omega (arith, e))
 
 pub known-size : (w d j size from m : ℕ) → d ≡ j → j / 8 ≡ size → (j ≡ 16) ⊎ ((j ≡ 24) ⊎ (j ≡ 32)) → from + rowStride w d ≤ m → from + w * size ≤ m
 known-size w d j size from m e f k h =
@@ -286,12 +271,6 @@ known-size w d j size from m e f k h =
     let q : d / 8 ≡ size = ap (λ (z : ℕ). z / 8) e ∙ f in
     let c : w * size ≤ rowStride w d = subst (λ (z : ℕ). w * z ≤ rowStride w d) q b in
     omega arith
-
-pub known-quads : (file was later : List ℕ) (t : Fields) (from to j size : ℕ) → t .depth ≡ j → j / 8 ≡ size → (j ≡ 24) ⊎ (j ≡ 32) → t .compression ≡ 0
-    → later ≡ put was to (cat (bytesQuad file from size) (t .width)) → later ≡ put was to (numbersIn file t (drop from file))
-known-quads file was later t from to j size e f k c h =
-    let q : size ≡ t .depth / 8 = sym (ap (λ (z : ℕ). z / 8) e ∙ f) in
-    h ∙ ap (λ (z : ℕ). put was to (cat (bytesQuad file from z) (t .width))) q ∙ ap (put was to) (byte-row file t from (subst (λ (z : ℕ). (z ≡ 24) ⊎ (z ≡ 32)) (sym e) k) c)
 
 pub known-words : (file was later : List ℕ) (t : Fields) (from to j : ℕ) (channels : Channels) → t .depth ≡ j → Way t → 8 < t .depth → (eqb (t .compression) 0 && not (eqb (t .depth) 16)) ≡ false
     → channels ≡ channelsFor file (t .compression) → later ≡ put was to (cat (λ x. quadUnder channels (cellWord j (drop from file) x)) (t .width)) → later ≡ put was to (numbersIn file t (drop from file))

@@ -11,7 +11,6 @@ use lib.Seq.{drop-drop}
 use lib.Dec.{ltb}
 use Rattle.leaves.specs.Lists.{tab}
 use Rattle.leaves.specs.Put.{put}
-use Rattle.leaves.specs.Sizes.{hasTable}
 use Rattle.leaves.proofs.ListLaws.{length-tab}
 use Rattle.format.specs.Decode.{Decoded, filled, refused, behind, andThen, pairCell, cellAt, dataRead, readCode, readRow}
 use Rattle.format.specs.Shown.{short, pastRowEnd}
@@ -181,10 +180,6 @@ module _ {file : List ℕ} {begin d w : ℕ} {was : List ℕ} {to : ℕ} where
       (omega (arith, r .bytes, no-bytes), r .so-far .same ∙ ap (put was to) (sym all))
 
 -- ---- the depths of a stream
-
-pub coded-table : {d : ℕ} → (d ≡ 4) ⊎ (d ≡ 8) → hasTable d ≡ true
-coded-table (inl e) = rw e
-coded-table (inr e) = rw e
 
 pub coded-small : {d : ℕ} → (d ≡ 4) ⊎ (d ≡ 8) → d ≤ 8
 coded-small (inl e) = omega arith

@@ -1,5 +1,5 @@
 -- The numbers of a cell as the code computes them: from its bytes, and under masks.
-use Prim.Native.Nat.{ℕ, _+_, _*_, _/_, _^_, _<_}
+use Prim.Native.Nat.{ℕ, _+_, _-_, _*_, _/_, _%_, _^_, _<_}
 use mathlib.Core.Bool.{cond}
 use mathlib.Core.List.{List, [], _∷_}
 use lib.Bits.{bitAnd}
@@ -13,6 +13,10 @@ use Rattle.reader.specs.declared.cells.Channels.{Channels}
 -- cell x of cells of `size` bytes: blue, green, red
 unfoldable pub bytesQuad : List ℕ → ℕ → ℕ → ℕ → List ℕ
 bytesQuad file from size x = getD file (from + x * size + 2) 0 ∷ getD file (from + x * size + 1) 0 ∷ getD file (from + x * size) 0 ∷ 0 ∷ []
+
+-- where the byte of number k of four such cells stands, counted from five bytes before byte k; alpha, which has none, is behind the eight bytes there
+unfoldable pub numberPlace : ℕ → ℕ → ℕ
+numberPlace size k = k / 4 * size + 7 + k % 4 / 3 * 16 - k % 4 - k
 
 -- a mask and the place of its lowest one; 0 for a zero mask
 abbrev pub channelAt : ℕ → Channel
@@ -30,6 +34,10 @@ pub record ChannelsOk (c : Channels) : Type 0 where
   pub green : c .green .shift < 32
   pub blue : c .blue .shift < 32
   pub alpha : c .alpha .shift < 32
+
+-- five bits each from bits 10, 5, 0, without alpha
+unfoldable pub fiveBits : Channels
+fiveBits = record { red = channelAt 0x7C00; green = channelAt 0x03E0; blue = channelAt 0x001F; alpha = channelAt 0 }
 
 -- those of a file: at 16 bits without masks five bits each from bits 10, 5, 0; alpha for compression 6 only
 unfoldable pub channelsFor : List ℕ → ℕ → Channels

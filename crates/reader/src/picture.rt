@@ -5,11 +5,12 @@ ghost use mathlib.Core.Logic.{_⊎_};
 ghost use Prim.Native.Nat.{_+_, _-_, _*_, _^_, _≤_, _<_};
 ghost use lib.Dec.{leb};
 ghost use lib.ListN.{length, drop};
+ghost use Rattle.leaves.specs.Lists.{cat};
 ghost use Rattle.leaves.specs.Put.{put};
 ghost use Rattle.leaves.specs.Sizes.{rowStride};
 ghost use Rattle.format.specs.Decode.{decode};
-ghost use Rattle.format.specs.Readers.{shownHeight};
-ghost use Rattle.reader.specs.Channels.{channelsFor, ChannelsOk};
+ghost use Rattle.format.specs.Readers.{shownHeight, cellWord};
+ghost use Rattle.reader.specs.Channels.{fiveBits, channelsFor, quadUnder, ChannelsOk};
 ghost use Rattle.reader.specs.Fields.{fieldsIn};
 ghost use Rattle.reader.specs.Numbers.{numbersEach};
 ghost use Rattle.reader.specs.Refusals.{isRefused};
@@ -29,21 +30,28 @@ use crate::stream::fill_row;
 use leaves::types::BI_RGB;
 use leaves::types::row_stride;
 
-// The channels of a cell of 16 or 32 bits: without masks in the file, five bits each.
+// The channels of a 16-bit cell without masks in the file: five bits each.
+fn five_bits() -> Channels
+    ensures { λ r. ⌜ (r ≡ fiveBits) × ChannelsOk r ⌝ }
+{
+    let red = channel_of(0x7C00);
+    let green = channel_of(0x03E0);
+    let blue = channel_of(0x001F);
+    let alpha = channel_of(0);
+    Channels {
+        red,
+        green,
+        blue,
+        alpha,
+    }
+}
+
+// The channels of a cell of 16 or 32 bits.
 fn channels_of(file: &[u8], compression: u32) -> Channels
     ensures { λ r. ⌜ (r ≡ channelsFor (now (file .entry)) compression) × ChannelsOk r ⌝ }
 {
     if compression == BI_RGB {
-        let red = channel_of(0x7C00);
-        let green = channel_of(0x03E0);
-        let blue = channel_of(0x001F);
-        let alpha = channel_of(0);
-        return Channels {
-            red,
-            green,
-            blue,
-            alpha,
-        };
+        return five_bits();
     }
     let red = channel_of(dword_at(file, 54));
     let green = channel_of(dword_at(file, 58));
@@ -55,6 +63,29 @@ fn channels_of(file: &[u8], compression: u32) -> Channels
         blue,
         alpha,
     }
+}
+
+// n cells of 16 bits. With channels that are known the loop is compiled for itself.
+fn put_words16(
+    file: &[u8],
+    from: usize,
+    compression: u32,
+    channels: Channels,
+    n: usize,
+    cells: &mut [u32],
+    to: usize,
+)
+    requires { ⌜ channels ≡ channelsFor (now file) compression ⌝ }
+    requires { ⌜ ChannelsOk channels ⌝ }
+    requires { ⌜ from + n * 2 ≤ length (now file) ⌝ }
+    requires { ⌜ to + n * 4 ≤ length (now cells) ⌝ }
+    ensures { λ _. ⌜ now (cells .exit) ≡ put (now (cells .entry)) to (cat (λ x. quadUnder channels (cellWord 16 (drop from (now (file .entry))) x)) n) ⌝ }
+{
+    if compression == BI_RGB {
+        put_words(file, from, 16, five_bits(), n, cells, to);
+        return;
+    }
+    put_words(file, from, 16, channels, n, cells, to);
 }
 
 // The numbers of a cell.
@@ -89,17 +120,13 @@ fn put_row(
         put_indices(file, from, depth, width, cells, to);
         return;
     }
-    // With a size that is known each loop is compiled for itself.
     if (t.compression == BI_RGB) & (depth != 16) {
-        if depth == 24 {
-            put_bytes(file, from, 3, width, cells, to);
-            return;
-        }
-        put_bytes(file, from, 4, width, cells, to);
+        put_bytes(file, from, depth as usize / 8, width, cells, to);
         return;
     }
+    // With a size that is known each loop is compiled for itself.
     if depth == 16 {
-        put_words(file, from, 16, channels, width, cells, to);
+        put_words16(file, from, t.compression, channels, width, cells, to);
         return;
     }
     put_words(file, from, 32, channels, width, cells, to);

@@ -8,7 +8,7 @@ ghost use Rattle.leaves.specs.Put.{put};
 ghost use Rattle.format.specs.Decode.{readCode, readRow, decode};
 ghost use Rattle.reader.specs.Refusals.{isRefused};
 ghost use Rattle.reader.specs.Streams.{cellsIn, bytesIn, codeOf, rowEnd, marksEnd};
-use crate::cells::put_indices;
+use crate::cells::put_block;
 use crate::cells::put_pair;
 use crate::fields::HeadFields;
 use crate::fields::shown_height;
@@ -165,7 +165,7 @@ fn fill_code(file: &[u8], at: usize, depth: u16, room: usize, cells: &mut [u32],
         };
     }
     let n = file[at + 1] as usize;
-    put_indices(file, at + 2, depth, n, cells, to);
+    put_block(file, at + 2, depth, n, cells, to);
     let data = data_bytes(n, depth);
     Code {
         cells: n,

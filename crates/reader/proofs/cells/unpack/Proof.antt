@@ -1,50 +1,61 @@
-use Rattle.reader.proofs.CellLaws.{bits-inside}
+use Rattle.reader.proofs.Blocks.{AtByte, tab-turns, at-first, at-next, bytes-room, in-byte, cell-on}
+use Rattle.reader.proofs.Loops.{SoFar, tab-start, tab-end}
 use Rattle.format.specs.Decode.{cellAt}
 use Rattle.leaves.specs.Lists.{tab}
-use Rattle.reader.proofs.CellLaws.{bits-inside}
-use Rattle.reader.proofs.Loops.{SoFar, tab-start, tab-turn, tab-end}
-use denote.Ref.{now}
 use lib.ListN.{drop}
-use Prim.Native.Nat.{_-_, _≤_}
+use denote.Ref.{now}
+use Prim.Native.Nat.{_-_, _/_, _≤_}
 use native.Mathlib.Omega.{arith}
 use Rattle.reader.proofs.cells.unpack.Statement.{statement}
 use Rattle.reader.proofs.cells.unpack.Tie as tie
 
 abbrev Inv-loop : tie.InvT-loop
-Inv-loop file from depth n cells₀ to x₀ cells x = (x ≤ n) × SoFar cells₀ to (tab (cellAt depth (drop from file)) x) cells
+Inv-loop file from depth n cells₀ to in-byte x₀ p₀ cells x p = (x ≤ n) × AtByte depth from x p × SoFar cells₀ to (tab (cellAt depth (drop from file)) x) cells
 
 abbrev μ-loop : tie.MeasureT-loop
-μ-loop file from depth n cells₀ to x₀ cells x = n - x
+μ-loop file from depth n cells₀ to in-byte x₀ p₀ cells x p = n - x
+
+div-in-byte : tie.Need-div-in-byte Inv-loop μ-loop
+div-in-byte c = let a = c .before .before .args in omega (arith, in-byte (a .depth) (c .before .before .pre .0) .0)
 
 loop-holds : tie.Need-loop-holds Inv-loop μ-loop
-loop-holds c = let a = c .before .before .args in (omega arith, tab-start (cellAt (a .depth) (drop (a .from) (now (a .file)))))
+loop-holds c = let a = c .before .before .args in (omega arith, at-first (a .depth) (a .from), tab-start (cellAt (a .depth) (drop (a .from) (now (a .file)))))
 
-packed-index-requires : tie.Need-packed-index-requires Inv-loop μ-loop
-packed-index-requires c κs = let a = c .before .before .before .before .args in let l = c .before .loop in (c .before .before .before .before .pre .0, (omega arith, omega (arith, bits-inside (a .depth) (l .x) (a .n) (c .before .before .before .before .pre .0) (omega arith))))
+sub-loop : tie.Need-sub-loop Inv-loop μ-loop
+sub-loop c = c .loop .inv .0
 
-add-cells : tie.Need-add-cells Inv-loop μ-loop
-add-cells c = omega (arith, c .before .before .loop .inv .1 .long)
+add-each-index : tie.Need-add-each-index Inv-loop μ-loop
+add-each-index c = let a = c .before .before .before .before .before .args in let l = c .before .before .loop in let t = c .before .before .before .before .before .pre .0 in omega (arith, c .before .before .before .before .before .good)
 
-mul-cells : tie.Need-mul-cells Inv-loop μ-loop
-mul-cells c = omega (arith, c .before .before .loop .inv .1 .long)
-
-slice-write-cells : tie.Need-slice-write-cells Inv-loop μ-loop
-slice-write-cells c = omega (arith, c .before .before .loop .inv .1 .long)
+each-index-requires : tie.Need-each-index-requires Inv-loop μ-loop
+each-index-requires c κs = let a = c .before .before .before .before .before .args in let l = c .before .before .loop in let t = c .before .before .before .before .before .pre .0 in (t, (omega (arith, in-byte (a .depth) t .2), (omega (arith, bytes-room (a .depth) (a .from) (l .x) (l .p) (8 / a .depth) (a .n) t (l .inv .1) (omega arith)), omega (arith, l .inv .2 .long))))
 
 add-x : tie.Need-add-x Inv-loop μ-loop
-add-x c = omega arith
+add-x c = let a = c .before .before .before .before .before .before .before .before .args in let l = c .before .before .before .before .before .loop in let t = c .before .before .before .before .before .before .before .before .pre .0 in omega arith
+
+add-p : tie.Need-add-p Inv-loop μ-loop
+add-p c = let a = c .before .before .before .before .before .before .before .before .args in let l = c .before .before .before .before .before .loop in let t = c .before .before .before .before .before .before .before .before .pre .0 in omega (arith, bytes-room (a .depth) (a .from) (l .x) (l .p) (8 / a .depth) (a .n) t (l .inv .1) (omega arith), in-byte (a .depth) t .1, c .before .before .before .before .before .before .before .before .good)
 
 loop-less : tie.Need-loop-less Inv-loop μ-loop
-loop-less c = omega arith
+loop-less c = let a = c .before .before .before .before .before .before .before .before .args in let l = c .before .before .before .before .before .loop in let t = c .before .before .before .before .before .before .before .before .pre .0 in omega (arith, in-byte (a .depth) t .1)
 
 loop-again : tie.Need-loop-again Inv-loop μ-loop
-loop-again c = let a = c .before .before .before .before .before .args in let l = c .before .before .loop in (omega arith, tab-turn (cellAt (a .depth) (drop (a .from) (now (a .file)))) (l .x) _ (l .inv .1) (c .packed-index .ensures) (omega arith))
+loop-again c = let a = c .before .before .before .before .before .before .before .before .args in let l = c .before .before .before .before .before .loop in let t = c .before .before .before .before .before .before .before .before .pre .0 in (omega arith, at-next (a .depth) (a .from) (l .x) (l .p) t (l .inv .1), tab-turns (cellAt (a .depth) (drop (a .from) (now (a .file)))) (cellAt (a .depth) (drop (l .p) (now (a .file)))) (l .x) (8 / a .depth) _ (l .inv .2) (omega arith) (λ i h. cell-on (now (a .file)) (a .depth) (a .from) (l .x) (l .p) i t (l .inv .1)) (c .before .before .each-index .ensures))
+
+sub-each-index : tie.Need-sub-each-index Inv-loop μ-loop
+sub-each-index c = c .before .loop .inv .0
+
+add-each-index-2 : tie.Need-add-each-index-2 Inv-loop μ-loop
+add-each-index-2 c = let a = c .before .before .before .before .before .args in let l = c .before .before .loop in let t = c .before .before .before .before .before .pre .0 in omega (arith, c .before .before .before .before .before .good)
+
+each-index-requires-2 : tie.Need-each-index-requires-2 Inv-loop μ-loop
+each-index-requires-2 c κs = let a = c .before .before .before .before .before .args in let l = c .before .before .loop in let t = c .before .before .before .before .before .pre .0 in (t, (omega arith, (omega (arith, bytes-room (a .depth) (a .from) (l .x) (l .p) (a .n - l .x) (a .n) t (l .inv .1) (omega arith)), omega (arith, l .inv .2 .long))))
 
 same-length : tie.Need-same-length Inv-loop μ-loop
-same-length c = c .before .loop .inv .1 .long
+same-length c = let a = c .before .before .before .before .before .before .before .before .args in let l = c .before .before .before .before .before .loop in let t = c .before .before .before .before .before .before .before .before .pre .0 in omega (arith, l .inv .2 .long)
 
 returns : tie.Need-returns Inv-loop μ-loop
-returns c = let a = c .before .before .before .before .args in tab-end (cellAt (a .depth) (drop (a .from) (now (a .file)))) (c .before .loop .inv .1) (omega arith)
+returns c = let a = c .before .before .before .before .before .before .before .before .args in let l = c .before .before .before .before .before .loop in let t = c .before .before .before .before .before .before .before .before .pre .0 in tab-end (cellAt (a .depth) (drop (a .from) (now (a .file)))) (tab-turns (cellAt (a .depth) (drop (a .from) (now (a .file)))) (cellAt (a .depth) (drop (l .p) (now (a .file)))) (l .x) (a .n - l .x) _ (l .inv .2) (omega arith) (λ i h. cell-on (now (a .file)) (a .depth) (a .from) (l .x) (l .p) i t (l .inv .1)) (c .before .before .each-index2 .ensures)) (omega arith)
 
 pub unpack-spec : {M : Type 1} → statement M
 unpack-spec =
@@ -52,13 +63,17 @@ unpack-spec =
     (tie.spec
     Inv-loop
     μ-loop
+    div-in-byte
     loop-holds
-    packed-index-requires
-    add-cells
-    mul-cells
-    slice-write-cells
+    sub-loop
+    add-each-index
+    each-index-requires
     add-x
+    add-p
     loop-less
     loop-again
+    sub-each-index
+    add-each-index-2
+    each-index-requires-2
     same-length
     returns)

@@ -1,4 +1,4 @@
-use Rattle.reader.proofs.RowCodes.{coded-table, coded-small}
+use Rattle.reader.proofs.RowCodes.{coded-small}
 use Rattle.reader.specs.Streams.{cellsIn}
 use Rattle.leaves.specs.Put.{put}
 use Rattle.format.specs.Decode.{Decoded}
@@ -42,11 +42,11 @@ shared-slice-read-n c = let a = c .before .before .before .before .before .args 
 cast-n : tie.Need-cast-n
 cast-n c = let a = c .before .before .before .before .before .args in let g = c .before .before .before .before .before .pre .1 .1 .0 in omega (arith, (c .shared-slice-known4 .given (a .at + 1)))
 
-add-put-indices : tie.Need-add-put-indices
-add-put-indices c = let a = c .before .before .before .before .before .args in let g = c .before .before .before .before .before .pre .1 .1 .0 in omega (arith, good-there (now (a .file)) (a .at) (a .depth) (a .room) g)
+add-put-block : tie.Need-add-put-block
+add-put-block c = let a = c .before .before .before .before .before .args in let g = c .before .before .before .before .before .pre .1 .1 .0 in omega (arith, good-there (now (a .file)) (a .at) (a .depth) (a .room) g)
 
-put-indices-requires : tie.Need-put-indices-requires
-put-indices-requires c κs = let a = c .before .before .before .before .before .before .args in let g = c .before .before .before .before .before .before .pre .1 .1 .0 in (coded-table (c .before .before .before .before .before .before .pre .1 .0), (omega (arith, (c .before .shared-slice-known4 .given (a .at + 1))), (omega (arith, good-there (now (a .file)) (a .at) (a .depth) (a .room) g, good-data (now (a .file)) (a .at) (a .depth) (a .room) (length (now (a .file)) - a .at) (getD (now (a .file)) (a .at) 0) (getD (now (a .file)) (a .at + 1) 0) (c .before .before .before .before .before .before .pre .0) refl (good-there (now (a .file)) (a .at) (a .depth) (a .room) g) refl refl g (c .before .before .if1 .left)), omega (arith, good-room (now (a .file)) (a .at) (a .depth) (a .room) (length (now (a .file)) - a .at) (getD (now (a .file)) (a .at) 0) (getD (now (a .file)) (a .at + 1) 0) (c .before .before .before .before .before .before .pre .0) refl (good-there (now (a .file)) (a .at) (a .depth) (a .room) g) refl refl g (c .before .before .if1 .left), c .before .before .before .before .before .before .pre .1 .1 .1))))
+put-block-requires : tie.Need-put-block-requires
+put-block-requires c κs = let a = c .before .before .before .before .before .before .args in let g = c .before .before .before .before .before .before .pre .1 .1 .0 in (c .before .before .before .before .before .before .pre .1 .0, (omega (arith, (c .before .shared-slice-known4 .given (a .at + 1))), (omega (arith, good-there (now (a .file)) (a .at) (a .depth) (a .room) g, good-data (now (a .file)) (a .at) (a .depth) (a .room) (length (now (a .file)) - a .at) (getD (now (a .file)) (a .at) 0) (getD (now (a .file)) (a .at + 1) 0) (c .before .before .before .before .before .before .pre .0) refl (good-there (now (a .file)) (a .at) (a .depth) (a .room) g) refl refl g (c .before .before .if1 .left)), omega (arith, good-room (now (a .file)) (a .at) (a .depth) (a .room) (length (now (a .file)) - a .at) (getD (now (a .file)) (a .at) 0) (getD (now (a .file)) (a .at + 1) 0) (c .before .before .before .before .before .before .pre .0) refl (good-there (now (a .file)) (a .at) (a .depth) (a .room) g) refl refl g (c .before .before .if1 .left), c .before .before .before .before .before .before .pre .1 .1 .1))))
 
 data-bytes-requires : tie.Need-data-bytes-requires
 data-bytes-requires c κs = let a = c .before .before .before .before .before .before .before .before .before .args in let g = c .before .before .before .before .before .before .before .before .before .pre .1 .1 .0 in (omega (arith, (c .before .before .before .before .shared-slice-known4 .given (a .at + 1))), coded-small (c .before .before .before .before .before .before .before .before .before .pre .1 .0))
@@ -61,7 +61,7 @@ same-length-2 : tie.Need-same-length-2
 same-length-2 c = search needs
 
 returns-2 : tie.Need-returns-2
-returns-2 c = let a = c .before .before .before .before .before .before .before .before .before .before .args in let g = c .before .before .before .before .before .before .before .before .before .before .pre .1 .1 .0 in ((block-told (now (a .file)) (a .at) (a .depth) (a .room) (length (now (a .file)) - a .at) (getD (now (a .file)) (a .at) 0) (getD (now (a .file)) (a .at + 1) 0) (c .before .before .before .before .before .before .before .before .before .before .pre .0) refl (good-there (now (a .file)) (a .at) (a .depth) (a .room) g) refl refl (c .before .before .before .before .before .before .if1 .left) _ (c .data-bytes .ensures .0) (good-long (now (a .file)) (a .at) (a .depth) (a .room) (length (now (a .file)) - a .at) (getD (now (a .file)) (a .at) 0) (getD (now (a .file)) (a .at + 1) 0) (c .before .before .before .before .before .before .before .before .before .before .pre .0) refl (good-there (now (a .file)) (a .at) (a .depth) (a .room) g) refl refl g (c .before .before .before .before .before .before .if1 .left)) (good-room (now (a .file)) (a .at) (a .depth) (a .room) (length (now (a .file)) - a .at) (getD (now (a .file)) (a .at) 0) (getD (now (a .file)) (a .at + 1) 0) (c .before .before .before .before .before .before .before .before .before .before .pre .0) refl (good-there (now (a .file)) (a .at) (a .depth) (a .room) g) refl refl g (c .before .before .before .before .before .before .if1 .left)) (omega (arith, c .data-bytes .ensures .0, good-data (now (a .file)) (a .at) (a .depth) (a .room) (length (now (a .file)) - a .at) (getD (now (a .file)) (a .at) 0) (getD (now (a .file)) (a .at + 1) 0) (c .before .before .before .before .before .before .before .before .before .before .pre .0) refl (good-there (now (a .file)) (a .at) (a .depth) (a .room) g) refl refl g (c .before .before .before .before .before .before .if1 .left))), omega (arith, c .data-bytes .ensures .1)), c .before .before .before .put-indices .ensures ∙ ap (λ (d : Decoded). put (now (a .cells)) (a .to) (cellsIn d)) (sym (block-is (now (a .file)) (a .at) (a .depth) (a .room) (length (now (a .file)) - a .at) (getD (now (a .file)) (a .at) 0) (getD (now (a .file)) (a .at + 1) 0) (c .before .before .before .before .before .before .before .before .before .before .pre .0) refl (good-there (now (a .file)) (a .at) (a .depth) (a .room) g) refl refl (c .before .before .before .before .before .before .if1 .left) ((getD (now (a .file)) (a .at + 1) 0 * a .depth + 7) / 8) refl (good-long (now (a .file)) (a .at) (a .depth) (a .room) (length (now (a .file)) - a .at) (getD (now (a .file)) (a .at) 0) (getD (now (a .file)) (a .at + 1) 0) (c .before .before .before .before .before .before .before .before .before .before .pre .0) refl (good-there (now (a .file)) (a .at) (a .depth) (a .room) g) refl refl g (c .before .before .before .before .before .before .if1 .left)) (good-room (now (a .file)) (a .at) (a .depth) (a .room) (length (now (a .file)) - a .at) (getD (now (a .file)) (a .at) 0) (getD (now (a .file)) (a .at + 1) 0) (c .before .before .before .before .before .before .before .before .before .before .pre .0) refl (good-there (now (a .file)) (a .at) (a .depth) (a .room) g) refl refl g (c .before .before .before .before .before .before .if1 .left)) (good-data (now (a .file)) (a .at) (a .depth) (a .room) (length (now (a .file)) - a .at) (getD (now (a .file)) (a .at) 0) (getD (now (a .file)) (a .at + 1) 0) (c .before .before .before .before .before .before .before .before .before .before .pre .0) refl (good-there (now (a .file)) (a .at) (a .depth) (a .room) g) refl refl g (c .before .before .before .before .before .before .if1 .left)))))
+returns-2 c = let a = c .before .before .before .before .before .before .before .before .before .before .args in let g = c .before .before .before .before .before .before .before .before .before .before .pre .1 .1 .0 in ((block-told (now (a .file)) (a .at) (a .depth) (a .room) (length (now (a .file)) - a .at) (getD (now (a .file)) (a .at) 0) (getD (now (a .file)) (a .at + 1) 0) (c .before .before .before .before .before .before .before .before .before .before .pre .0) refl (good-there (now (a .file)) (a .at) (a .depth) (a .room) g) refl refl (c .before .before .before .before .before .before .if1 .left) _ (c .data-bytes .ensures .0) (good-long (now (a .file)) (a .at) (a .depth) (a .room) (length (now (a .file)) - a .at) (getD (now (a .file)) (a .at) 0) (getD (now (a .file)) (a .at + 1) 0) (c .before .before .before .before .before .before .before .before .before .before .pre .0) refl (good-there (now (a .file)) (a .at) (a .depth) (a .room) g) refl refl g (c .before .before .before .before .before .before .if1 .left)) (good-room (now (a .file)) (a .at) (a .depth) (a .room) (length (now (a .file)) - a .at) (getD (now (a .file)) (a .at) 0) (getD (now (a .file)) (a .at + 1) 0) (c .before .before .before .before .before .before .before .before .before .before .pre .0) refl (good-there (now (a .file)) (a .at) (a .depth) (a .room) g) refl refl g (c .before .before .before .before .before .before .if1 .left)) (omega (arith, c .data-bytes .ensures .0, good-data (now (a .file)) (a .at) (a .depth) (a .room) (length (now (a .file)) - a .at) (getD (now (a .file)) (a .at) 0) (getD (now (a .file)) (a .at + 1) 0) (c .before .before .before .before .before .before .before .before .before .before .pre .0) refl (good-there (now (a .file)) (a .at) (a .depth) (a .room) g) refl refl g (c .before .before .before .before .before .before .if1 .left))), omega (arith, c .data-bytes .ensures .1)), c .before .before .before .put-block .ensures ∙ ap (λ (d : Decoded). put (now (a .cells)) (a .to) (cellsIn d)) (sym (block-is (now (a .file)) (a .at) (a .depth) (a .room) (length (now (a .file)) - a .at) (getD (now (a .file)) (a .at) 0) (getD (now (a .file)) (a .at + 1) 0) (c .before .before .before .before .before .before .before .before .before .before .pre .0) refl (good-there (now (a .file)) (a .at) (a .depth) (a .room) g) refl refl (c .before .before .before .before .before .before .if1 .left) ((getD (now (a .file)) (a .at + 1) 0 * a .depth + 7) / 8) refl (good-long (now (a .file)) (a .at) (a .depth) (a .room) (length (now (a .file)) - a .at) (getD (now (a .file)) (a .at) 0) (getD (now (a .file)) (a .at + 1) 0) (c .before .before .before .before .before .before .before .before .before .before .pre .0) refl (good-there (now (a .file)) (a .at) (a .depth) (a .room) g) refl refl g (c .before .before .before .before .before .before .if1 .left)) (good-room (now (a .file)) (a .at) (a .depth) (a .room) (length (now (a .file)) - a .at) (getD (now (a .file)) (a .at) 0) (getD (now (a .file)) (a .at + 1) 0) (c .before .before .before .before .before .before .before .before .before .before .pre .0) refl (good-there (now (a .file)) (a .at) (a .depth) (a .room) g) refl refl g (c .before .before .before .before .before .before .if1 .left)) (good-data (now (a .file)) (a .at) (a .depth) (a .room) (length (now (a .file)) - a .at) (getD (now (a .file)) (a .at) 0) (getD (now (a .file)) (a .at + 1) 0) (c .before .before .before .before .before .before .before .before .before .before .pre .0) refl (good-there (now (a .file)) (a .at) (a .depth) (a .room) g) refl refl g (c .before .before .before .before .before .before .if1 .left)))))
 
 pub fill-code-spec : {M : Type 1} → statement M
 fill-code-spec =
@@ -77,8 +77,8 @@ fill-code-spec =
     add-n
     shared-slice-read-n
     cast-n
-    add-put-indices
-    put-indices-requires
+    add-put-block
+    put-block-requires
     data-bytes-requires
     add-t19
     add-t25
