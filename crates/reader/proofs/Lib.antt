@@ -7,6 +7,7 @@ pub mod Heads
 pub mod Loops
 pub mod Opens
 pub mod PlainRows
+pub mod Promises
 pub mod ReadBack
 pub mod RowCodes
 pub mod Stops
