@@ -21,7 +21,7 @@ use Rattle.reader.specs.Answers.{sizesFor, refusedReading, rowsShown, ro
 use Rattle.reader.specs.Numbers.{numbersOf, numbersEach, cellCount, headBytes, headIn, tableBytes, tableIn, profileAt, profileBytes}
 use Rattle.reader.specs.Refusals.{writtenPair, isCoded, neverWritten, outsideFile, buffersTooShort, streamFails, firstApplying, openRows, readRows}
 use Rattle.reader.specs.Rows.{plainNumbers, streamNumbers, WrittenKind}
-use Rattle.reader.specs.Streams.{cellsIn}
+use Rattle.cells.specs.Streams.{cellsIn}
 use Rattle.reader.proofs.Heads.{Sound}
 use Rattle.reader.proofs.Opens.{Opened, or-last, outside-parts, opened, shown-of, newer-shown, stream-shown, rows-shown, stream-numbers, stored-numbers, fails-coded}
 

@@ -16,14 +16,11 @@ use Rattle.leaves.specs.Sizes.{hasTable, rowStride}
 use Rattle.format.specs.Readers.{Fields, fieldsOf, wordAt, topFirst, shownHeight, tableCount}
 use Rattle.format.proofs.Passing.{or-false, and-false}
 use Rattle.format.proofs.PlainCells.{length-row}
+use Rattle.cells.proofs.CellLaws.{or-true, table-cases}
 use Rattle.reader.specs.Numbers.{profileBytes, profileAt}
 use Rattle.reader.specs.Refusals.{strangeMark, strangeHeader, noWidth, noHeight, strangeDepth, strangeCompression, strangePair, negativeStream, manyColours, strangeSizes, strangeKind, writtenPair, isCoded, masksOf, masksEnd, refusedMasks, strangeMasks, neverWritten, outsideFile, firstApplying, openRows}
 
 -- ---- tests
-
-or-true : (a b : Bool) → (a || b) ≡ true → (a ≡ true) ⊎ (b ≡ true)
-or-true true b e = inl refl
-or-true false b e = inr e
 
 and-true : (a b : Bool) → (a && b) ≡ true → (a ≡ true) × (b ≡ true)
 and-true true b e = (refl, e)
@@ -58,25 +55,6 @@ mask-depths c d e m =
     go (inl h) (inr q) = other 6 (eqb-true c 6 q) refl h
 
 -- ---- depth and compression
-
--- what holds at each depth with a colour table
-pub table-cases {ℓ} : (P : ℕ → Type ℓ) → P 1 → P 2 → P 4 → P 8 → (d : ℕ) → hasTable d ≡ true → P d
-table-cases P p1 p2 p4 p8 d e = four (or-true _ _ e)
-  where
-    is : (k : ℕ) → P k → eqb d k ≡ true → P d
-    is k p q = subst P (sym (eqb-true d k q)) p
-
-    two : (eqb d 1 ≡ true) ⊎ (eqb d 2 ≡ true) → P d
-    two (inl q) = is 1 p1 q
-    two (inr q) = is 2 p2 q
-
-    three : (eqb d 1 || eqb d 2 ≡ true) ⊎ (eqb d 4 ≡ true) → P d
-    three (inl q) = two (or-true _ _ q)
-    three (inr q) = is 4 p4 q
-
-    four : (eqb d 1 || eqb d 2 || eqb d 4 ≡ true) ⊎ (eqb d 8 ≡ true) → P d
-    four (inl q) = three (or-true _ _ q)
-    four (inr q) = is 8 p8 q
 
 abbrev pub writtenDepth : ℕ → Bool
 writtenDepth d = hasTable d || eqb d 16 || eqb d 24 || eqb d 32

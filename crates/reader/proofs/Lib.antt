@@ -1,17 +1,11 @@
-pub mod Blocks
 pub mod Calls
-pub mod CellLaws
-pub mod Codes
 pub mod Examples
 pub mod Heads
-pub mod Loops
 pub mod Opens
 pub mod PlainRows
 pub mod Promises
 pub mod ReadBack
-pub mod RowCodes
 pub mod Stops
 pub mod StreamRows
-pub mod Trials
 pub mod Written
 pub mod WrittenProfile

@@ -17,9 +17,9 @@ use Rattle.format.proofs.Passing.{or-false, and-false}
 use Rattle.format.proofs.Pictures.{some-cell}
 use Rattle.format.proofs.PlainCells.{length-row}
 use Rattle.reader.specs.Numbers.{cellNumbers, rowNumbers, numbersOf, headBytes, tableBytes, profileAt, profileBytes}
-use Rattle.reader.specs.Refusals.{writtenPair, isCoded, masksEnd, neverWritten, headerOutside, masksOutside, tableOutside, rowsOutside, profileOutside, outsideFile, isRefused, streamFails}
+use Rattle.reader.specs.Refusals.{writtenPair, isCoded, masksEnd, neverWritten, headerOutside, masksOutside, tableOutside, rowsOutside, profileOutside, outsideFile, streamFails}
+use Rattle.cells.specs.Streams.{isRefused, cellsIn}
 use Rattle.reader.specs.Rows.{cellIn, numbersIn, plainNumbers, streamNumbers}
-use Rattle.reader.specs.Streams.{cellsIn}
 use Rattle.reader.proofs.Heads.{depth-cases, writtenDepth, Sound, sound-at}
 use Rattle.reader.proofs.PlainRows.{ones-are, bits-fit}
 use Rattle.reader.proofs.Stops.{stops-refused}

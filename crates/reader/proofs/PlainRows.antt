@@ -19,13 +19,14 @@ use Rattle.leaves.proofs.ListLaws.{cat-ext, length-cat}
 use Rattle.format.specs.Decode.{cellAt}
 use Rattle.format.specs.Readers.{Fields, dwordAt, topFirst, storedAt, shownHeight, rowFrom, cellWord, five, rgbCell, channel, maskCell}
 use Rattle.format.proofs.PlainCells.{bits-under, length-row}
-use Rattle.reader.specs.declared.cells.Channels.{Channels}
-use Rattle.reader.specs.Channels.{bytesQuad, channelAt, valueUnder, quadUnder, channelsFor}
+use Rattle.cells.specs.declared.colours.Channels.{Channels}
+use Rattle.cells.specs.Quads.{bytesQuad, channelAt, valueUnder, quadUnder}
+use Rattle.reader.specs.Channels.{fiveBits, channelsFor}
 use Rattle.reader.specs.Numbers.{cellNumbers, numbersEach}
 use Rattle.reader.specs.Refusals.{writtenPair, isCoded}
 use Rattle.reader.specs.Rows.{cellIn, numbersIn, plainNumbers, WrittenKind}
-use Rattle.reader.proofs.Blocks.{the-second}
-use Rattle.reader.proofs.CellLaws.{table-depth}
+use Rattle.cells.proofs.Blocks.{the-second}
+use Rattle.cells.proofs.CellLaws.{table-depth}
 use Rattle.reader.proofs.Heads.{depth-cases, mask-depths}
 
 -- ---- the kinds
@@ -276,3 +277,11 @@ pub known-words : (file was later : List ℕ) (t : Fields) (from to j : ℕ) (ch
     → channels ≡ channelsFor file (t .compression) → later ≡ put was to (cat (λ x. quadUnder channels (cellWord j (drop from file) x)) (t .width)) → later ≡ put was to (numbersIn file t (drop from file))
 known-words file was later t from to j channels e k deep n q h =
     h ∙ ap (λ (z : ℕ). put was to (cat (λ x. quadUnder channels (cellWord z (drop from file) x)) (t .width))) (sym e) ∙ ap (put was to) (word-row file t from channels k deep n q)
+
+-- 16 bits without masks in the file
+pub without-masks : (file was later : List ℕ) (compression : ℕ) (c five : Channels) (from n to : ℕ) → compression ≡ 0 → c ≡ channelsFor file compression → five ≡ fiveBits
+    → later ≡ put was to (cat (λ x. quadUnder five (cellWord 16 (drop from file) x)) n) → later ≡ put was to (cat (λ x. quadUnder c (cellWord 16 (drop from file) x)) n)
+unfolding channelsFor fiveBits
+without-masks file was later compression c five from n to e ec ef h =
+    let same : five ≡ c = ef ∙ sym (subst (λ (k : ℕ). c ≡ channelsFor file k) e ec) in
+    subst (λ (z : Channels). later ≡ put was to (cat (λ x. quadUnder z (cellWord 16 (drop from file) x)) n)) same h

@@ -39,9 +39,10 @@ use Rattle.reader.specs.declared.read.Reading as code
 use Rattle.reader.specs.Answers.{Shows, Outcome, Read}
 use Rattle.reader.specs.Numbers.{numbersOf, headIn, tableIn, profileIn, profileAt, profileBytes, tableBytes}
 use Rattle.reader.specs.Numbers as numbers
-use Rattle.reader.specs.Refusals.{isCoded, neverWritten, headerOutside, masksOutside, rowsOutside, outsideFile, buffersTooShort, isRefused, stops, streamFails}
+use Rattle.reader.specs.Refusals.{isCoded, neverWritten, headerOutside, masksOutside, rowsOutside, outsideFile, buffersTooShort, stops, streamFails}
+use Rattle.cells.specs.Streams.{isRefused}
 use Rattle.reader.proofs.Calls.{opened-bytes, number-none}
-use Rattle.reader.proofs.Loops.{no-elements}
+use Rattle.cells.proofs.Loops.{no-elements}
 use Rattle.reader.proofs.Opens.{shown-of, newer-shown}
 use Rattle.reader.proofs.Stops.{stops-refused}
 use Rattle.reader.proofs.Written.{never-applies}

@@ -14,7 +14,8 @@ use Rattle.leaves.proofs.ListLaws.{length-tab}
 use Rattle.format.specs.Decode.{Decoded, filled, refused, behind, andThen, cellAt, pairCell, dataRead, readCode, fillRow, readRow, readRowEnd, rowsBelow, decode}
 use Rattle.format.specs.Shown.{short, pastRowEnd}
 use Rattle.format.proofs.RowReading.{row-step}
-use Rattle.reader.specs.Refusals.{isRefused, lastFilled, codeStops, stops}
+use Rattle.reader.specs.Refusals.{lastFilled, codeStops, stops}
+use Rattle.cells.specs.Streams.{isRefused}
 
 -- ---- one reading after the other
 

@@ -15,10 +15,9 @@ use Rattle.format.specs.Decode.{filled, readRow, rowsBelow, decode}
 use Rattle.format.proofs.RowReading.{row-length}
 use Rattle.format.proofs.StreamReading.{RowAt, decode-rows, rows-last, rows-place}
 use Rattle.format.proofs.Unpacking.{take-tab}
-use Rattle.reader.specs.Refusals.{isRefused}
+use Rattle.cells.specs.Streams.{isRefused, cellsIn, bytesIn}
 use Rattle.reader.specs.Rows.{streamNumbers}
-use Rattle.reader.specs.Streams.{cellsIn, bytesIn}
-use Rattle.reader.proofs.RowCodes.{is-filled}
+use Rattle.cells.proofs.RowCodes.{is-filled}
 
 -- ---- a put before a put
 

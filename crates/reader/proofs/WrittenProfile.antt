@@ -24,8 +24,8 @@ use Rattle.format.proofs.FileSizes.{length-rows}
 use Rattle.format.proofs.HeadFields.{dword-bytes, firstPart, first-length, fields-read, pixels-at, length-file}
 use Rattle.format.proofs.HeadMasks.{afterRest, mode-file}
 use Rattle.reader.specs.Numbers.{hasProfile, profileBytes, profileAt, profileIn}
-use Rattle.reader.proofs.CellLaws.{dword-from}
-use Rattle.reader.proofs.Loops.{no-elements}
+use Rattle.cells.proofs.CellLaws.{dword-from}
+use Rattle.cells.proofs.Loops.{no-elements}
 
 -- ---- the fields of a profile
 

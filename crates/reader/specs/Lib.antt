@@ -4,4 +4,3 @@ pub mod Fields
 pub mod Numbers
 pub mod Refusals
 pub mod Rows
-pub mod Streams

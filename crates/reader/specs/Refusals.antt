@@ -160,11 +160,6 @@ streamFails file =
     let t = fieldsOf file in
     isCoded (t .compression) && stops (t .depth) (t .width) (shownHeight t - 1) (t .width) (drop (t .offset) file) 0
 
--- whether a reading of the decoder is refused
-abbrev pub isRefused : Decoded → Bool
-isRefused (filled cells taken) = false
-isRefused (refused cause) = true
-
 -- ---- "The order is 17, 18, 15, 19"
 
 -- 17 and 18, of the file alone

@@ -20,7 +20,7 @@ use crate::fields::table_count;
 use crate::picture::fill_rows;
 use crate::picture::fill_stream;
 use crate::picture::numbers_each;
-use crate::stream::stream_fails;
+use cells::stream::stream_fails;
 use leaves::buffer::put_slice;
 
 pub struct Reading {

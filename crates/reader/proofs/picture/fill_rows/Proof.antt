@@ -3,7 +3,7 @@ use Rattle.format.specs.Readers.{shownHeight, storedAt, rowFrom}
 use Rattle.leaves.specs.Sizes.{rowStride}
 use Rattle.leaves.specs.Lists.{cat}
 use lib.Dec.{leb}
-use Rattle.reader.proofs.Loops.{SoFar, cat-start, cat-turn}
+use Rattle.cells.proofs.Loops.{SoFar, cat-start, cat-turn}
 use Rattle.reader.proofs.PlainRows.{rowAt, few-numbers, part-inside, stored-is, row-put, rows-done}
 use Rattle.reader.proofs.PlainRows.{way, row-numbers}
 use Rattle.reader.specs.Fields.{fieldsIn}

@@ -1,4 +1,4 @@
-use Rattle.reader.specs.Refusals.{isRefused}
+use Rattle.cells.specs.Streams.{isRefused}
 use Rattle.format.specs.Decode.{decode}
 use mathlib.Core.Bool.{false}
 use Rattle.reader.proofs.StreamRows.{Rising, rising-start, rising-place, rising-good, rising-room, rising-turn, rising-end}

@@ -1,4 +1,4 @@
-use Rattle.reader.proofs.Blocks.{without-masks}
+use Rattle.reader.proofs.PlainRows.{without-masks}
 use denote.Ref.{now}
 use mathlib.Core.Logic.{inl}
 use mathlib.Core.Path.{refl}

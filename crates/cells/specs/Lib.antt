@@ -1,0 +1,2 @@
+pub mod Quads
+pub mod Streams
