@@ -202,10 +202,6 @@ widened file numbers from size small e = tab-ext _ _ 16 (λ k h. sym (byte-cell 
     is : (k : ℕ) → k < 16 → getD numbers (0 + k) 0 ≡ numberAt file from size k
     is k h = rw (zero-add k, e) (getD-tab (numberAt file from size) 16 k 0 h)
 
--- four cells of a size that is known
-pub known-four : (file was later : List ℕ) (from size k to : ℕ) → size ≡ k → later ≡ put was to (cat (bytesQuad file from k) 4) → later ≡ put was to (cat (bytesQuad file from size) 4)
-known-four file was later from size k to e h = subst (λ (z : ℕ). later ≡ put was to (cat (bytesQuad file from z) 4)) (sym e) h
-
 -- ---- n cells of 3 or 4 bytes
 
 pub three-or-four : (size : ℕ) → (size ≡ 3) ⊎ (size ≡ 4) → (3 ≤ size) × (size ≤ 4)

@@ -84,39 +84,19 @@ fn place_of(size: usize, k: usize) -> usize
     k / 4 * size + 7 + k % 4 / 3 * 16 - k % 4 - k
 }
 
-// Four cells of 3 bytes. By way of a local array it is vector code, which reads some bytes before and behind them; a size
-// that is not known would keep it from being that.
-fn four_cells24(file: &[u8], from: usize, cells: &mut [u32], to: usize)
-    requires { ⌜ 5 ≤ from ⌝ }
-    requires { ⌜ from + 18 ≤ length (now file) ⌝ }
-    requires { ⌜ to + 16 ≤ length (now cells) ⌝ }
-    ensures { λ _. ⌜ now (cells .exit) ≡ put (now (cells .entry)) to (cat (bytesQuad (now (file .entry)) from 3) 4) ⌝ }
+// The same of a size that is one of two: from a literal it is a constant for each k, which vector code needs.
+fn known_place(size: usize, k: usize) -> usize
+    requires { ⌜ (size ≡ 3) ⊎ (size ≡ 4) ⌝ }
+    requires { ⌜ k < 16 ⌝ }
+    ensures { λ r. ⌜ r ≡ numberPlace size k ⌝ }
 {
-    let mut numbers = [0u8; 16];
-    let mut k = 0;
-    while k < 16 {
-        numbers[k] = byte_of_eight(file, from + k - 5, place_of(3, k));
-        k += 1;
+    if size == 3 {
+        return place_of(3, k);
     }
-    widen(&numbers, 0, 16, cells, to);
+    place_of(4, k)
 }
 
-// Four cells of 4 bytes.
-fn four_cells32(file: &[u8], from: usize, cells: &mut [u32], to: usize)
-    requires { ⌜ 5 ≤ from ⌝ }
-    requires { ⌜ from + 18 ≤ length (now file) ⌝ }
-    requires { ⌜ to + 16 ≤ length (now cells) ⌝ }
-    ensures { λ _. ⌜ now (cells .exit) ≡ put (now (cells .entry)) to (cat (bytesQuad (now (file .entry)) from 4) 4) ⌝ }
-{
-    let mut numbers = [0u8; 16];
-    let mut k = 0;
-    while k < 16 {
-        numbers[k] = byte_of_eight(file, from + k - 5, place_of(4, k));
-        k += 1;
-    }
-    widen(&numbers, 0, 16, cells, to);
-}
-
+// Four cells of 3 or 4 bytes. By way of a local array it is vector code, which reads some bytes before and behind them.
 fn four_cells(file: &[u8], from: usize, size: usize, cells: &mut [u32], to: usize)
     requires { ⌜ (size ≡ 3) ⊎ (size ≡ 4) ⌝ }
     requires { ⌜ 5 ≤ from ⌝ }
@@ -124,11 +104,13 @@ fn four_cells(file: &[u8], from: usize, size: usize, cells: &mut [u32], to: usiz
     requires { ⌜ to + 16 ≤ length (now cells) ⌝ }
     ensures { λ _. ⌜ now (cells .exit) ≡ put (now (cells .entry)) to (cat (bytesQuad (now (file .entry)) from size) 4) ⌝ }
 {
-    if size == 3 {
-        four_cells24(file, from, cells, to);
-        return;
+    let mut numbers = [0u8; 16];
+    let mut k = 0;
+    while k < 16 {
+        numbers[k] = byte_of_eight(file, from + k - 5, known_place(size, k));
+        k += 1;
     }
-    four_cells32(file, from, cells, to);
+    widen(&numbers, 0, 16, cells, to);
 }
 
 // n cells of 3 or 4 bytes, four a turn but for the first two and the last ones: around those there may be no bytes to read.
