@@ -2,12 +2,12 @@
 use mathlib.Core.Path.{_≡_, refl, sym, ap, subst, _∙_}
 use mathlib.Core.Logic.{_⊎_, inl, inr}
 use mathlib.Core.Bool.{Bool, true, false, cond}
-use mathlib.Core.List.{List, [], _∷_, _++_, append-assoc, append-nil}
+use mathlib.Core.List.{List, [], _∷_, _++_}
 use Prim.Native.Nat.{ℕ, zero, suc, _+_, _-_, _*_, _/_, _%_, _≤_, _<_}
-use native.Mathlib.Nat.{add-zero, add-suc, zero-add, add-mul, mul-le-mul-right, mod-eq-of-lt}
+use native.Mathlib.Nat.{add-zero, zero-add, add-mul, mul-le-mul-right}
 use native.Mathlib.Omega.{arith}
-use borrow.Author.Tests.{ltb-true, ltb-false, eqb-true, eqb-false, lt-ltb, le-ltb, ne-eqb}
-use lib.Bits.{bitAnd, bitOr, and-mask, and-zero-r, or-zero-l, or-zero-r}
+use borrow.Author.Tests.{lt-ltb, le-ltb}
+use lib.Bits.{bitAnd, bitOr}
 use lib.Dec.{eqb, ltb}
 use lib.ListN.{length, getD, drop}
 use lib.Seq.{getD-drop}
@@ -15,10 +15,9 @@ use Rattle.leaves.specs.Lists.{tab, cat}
 use Rattle.leaves.specs.Put.{put}
 use Rattle.leaves.specs.Sizes.{hasTable}
 use Rattle.leaves.proofs.Puts.{length-put}
-use Rattle.leaves.proofs.ListLaws.{length-tab, length-cat, tab-ext, getD-tab}
+use Rattle.leaves.proofs.ListLaws.{length-tab, length-cat, tab-ext, cat-ext, tab-append, cat-append, getD-tab}
+use Rattle.rows.proofs.Exchanges.{under-mask, or-first, or-next}
 use Rattle.format.specs.Decode.{cellAt}
-use Rattle.format.specs.Readers.{cellWord}
-use Rattle.cells.specs.declared.colours.Channels.{Channels}
 use Rattle.cells.specs.Quads.{bytesQuad, numberPlace}
 use Rattle.cells.proofs.CellLaws.{table-cases, byte-cell}
 use Rattle.cells.proofs.Loops.{SoFar, more}
@@ -34,23 +33,12 @@ the-first (inr b) h = absurd (h b)
 
 -- ---- lists by places, continued by another
 
-module _ {ℓ} {A : Type ℓ} where
-  pub tab-more : (f g : ℕ → A) (x m : ℕ) → ((i : ℕ) → i < m → g i ≡ f (x + i)) → tab f x ++ tab g m ≡ tab f (x + m)
-  unfolding tab
-  tab-more f g x zero h = rw (add-zero x) (append-nil (tab f x))
-  tab-more f g x (suc m) h = rw (add-suc x m, ← append-assoc (tab f x) (tab g m) (g m ∷ []), tab-more f g x m (λ i l. h i (omega arith)), h m (omega arith))
-
-  pub cat-more : (f g : ℕ → List A) (x m : ℕ) → ((i : ℕ) → i < m → g i ≡ f (x + i)) → cat f x ++ cat g m ≡ cat f (x + m)
-  unfolding cat
-  cat-more f g x zero h = rw (add-zero x) (append-nil (cat f x))
-  cat-more f g x (suc m) h = rw (add-suc x m, ← append-assoc (cat f x) (cat g m) (g m), cat-more f g x m (λ i l. h i (omega arith)), h m (omega arith))
-
 module _ {was : List ℕ} {to : ℕ} where
   pub tab-turns : (f g : ℕ → ℕ) (x m : ℕ) {is : List ℕ} (later : List ℕ) → SoFar was to (tab f x) is → to + x + m ≤ length was
       → ((i : ℕ) → i < m → g i ≡ f (x + i)) → later ≡ put is (to + x) (tab g m) → SoFar was to (tab f (x + m)) later
   tab-turns f g x m {is} later r h same e =
       let n : length (tab f x) ≡ x = length-tab f x in
-      subst (λ (l : List ℕ). SoFar was to l later) (tab-more f g x m same)
+      subst (λ (l : List ℕ). SoFar was to l later) (ap (λ (l : List ℕ). tab f x ++ l) (tab-ext g (λ i. f (x + i)) m same) ∙ tab-append f x m)
       (more (tab g m) later r (omega (arith, n, length-tab g m)) (e ∙ ap (λ (j : ℕ). put is (to + j) (tab g m)) (sym n)))
 
   pub cat-turns : (f g : ℕ → List ℕ) (k : ℕ) → ((x : ℕ) → length (f x) ≡ k) → (x m : ℕ) {is : List ℕ} (later : List ℕ) → SoFar was to (cat f x) is
@@ -58,7 +46,7 @@ module _ {was : List ℕ} {to : ℕ} where
   cat-turns f g k all x m {is} later r h same e =
       let n : length (cat f x) ≡ x * k = length-cat f k x (λ i l. all i) in
       let o : length (cat g m) ≡ m * k = length-cat g k m (λ i l. ap length (same i l) ∙ all (x + i)) in
-      subst (λ (l : List ℕ). SoFar was to l later) (cat-more f g x m same)
+      subst (λ (l : List ℕ). SoFar was to l later) (ap (λ (l : List ℕ). cat f x ++ l) (cat-ext g (λ i. f (x + i)) m same) ∙ cat-append f x m)
       (more (cat g m) later r (omega (arith, n, o)) (e ∙ ap (λ (j : ℕ). put is (to + j) (cat g m)) (sym n)))
 
 -- lists of k numbers put at once
@@ -114,29 +102,6 @@ cell-on file d from x p i t r =
 
 -- ---- one byte of eight
 
--- a byte under a mask
-masked : (b m place i : ℕ) → b < 256 → m ≡ cond (eqb place i) 255 0 → bitAnd b m ≡ cond (eqb place i) b 0
-masked b m place i h e = rw e (under (eqb place i))
-  where
-    under : (w : Bool) → bitAnd b (cond w 255 0) ≡ cond w b 0
-    under true = and-mask b 8 ∙ mod-eq-of-lt h
-    under false = and-zero-r b
-
--- the byte at a place below n, or 0, and the next one
-or-next : (g : ℕ → ℕ) (place n v w : ℕ) → v ≡ cond (ltb place n) (g place) 0 → w ≡ cond (eqb place n) (g n) 0 → bitOr v w ≡ cond (ltb place (n + 1)) (g place) 0
-or-next g place n v w ev ew = rw (ev, ew) (by (ltb place n) refl (eqb place n) refl)
-  where
-    by : (a : Bool) → ltb place n ≡ a → (b : Bool) → eqb place n ≡ b → bitOr (cond (ltb place n) (g place) 0) (cond (eqb place n) (g n) 0) ≡ cond (ltb place (n + 1)) (g place) 0
-    by true ea b eb =
-        let l : place < n = ltb-true place n ea in
-        rw (ea, ne-eqb place n (λ e. absurd (omega (arith, l, e))), lt-ltb place (n + 1) (omega arith)) (or-zero-r (g place))
-    by false ea true eb =
-        let e : place ≡ n = eqb-true place n eb in
-        rw (ea, eb, lt-ltb place (n + 1) (omega (arith, e))) (or-zero-l (g n) ∙ ap g (sym e))
-    by false ea false eb =
-        let l : n ≤ place = ltb-false place n ea in
-        rw (ea, eb, le-ltb place (n + 1) (omega (arith, eqb-false place n eb))) (or-zero-l 0)
-
 pub byte-of-eight-is : (file : List ℕ) (at place m0 m1 m2 m3 m4 m5 m6 m7 : ℕ) → ((i : ℕ) → getD file i 0 < 256)
     → m0 ≡ cond (eqb place 0) 255 0 → m1 ≡ cond (eqb place 1) 255 0 → m2 ≡ cond (eqb place 2) 255 0 → m3 ≡ cond (eqb place 3) 255 0
     → m4 ≡ cond (eqb place 4) 255 0 → m5 ≡ cond (eqb place 5) 255 0 → m6 ≡ cond (eqb place 6) 255 0 → m7 ≡ cond (eqb place 7) 255 0
@@ -148,11 +113,11 @@ byte-of-eight-is file at place m0 m1 m2 m3 m4 m5 m6 m7 small e0 e1 e2 e3 e4 e5 e
     g i = getD file (at + i) 0
 
     next : (n m : ℕ) {v : ℕ} → m ≡ cond (eqb place n) 255 0 → v ≡ cond (ltb place n) (g place) 0 → bitOr v (bitAnd (g n) m) ≡ cond (ltb place (n + 1)) (g place) 0
-    next n m e ev = or-next g place n _ _ ev (masked (g n) m place n (small (at + n)) e)
+    next n m e ev = or-next g place n _ _ ev (under-mask (g n) m place n (small (at + n)) e)
 
     first : bitAnd (getD file at 0) m0 ≡ cond (ltb place 1) (g place) 0
     first = let z : getD file at 0 ≡ g 0 = ap (λ (k : ℕ). getD file k 0) (sym (add-zero at)) in
-        rw z (sym (or-zero-l (bitAnd (g 0) m0)) ∙ next 0 m0 {v = 0} e0 (rw (le-ltb place 0 (omega arith))))
+        rw z (or-first g place (bitAnd (g 0) m0) (under-mask (g 0) m0 place 0 (small (at + 0)) e0))
 
 -- ---- four cells of 3 or 4 bytes
 

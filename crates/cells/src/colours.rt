@@ -12,6 +12,7 @@ ghost use Rattle.format.specs.Readers.{wordAt, dwordAt, cellWord};
 ghost use Rattle.cells.specs.Quads.{bytesQuad, numberPlace, channelAt, valueUnder, quadUnder, ChannelsOk};
 use crate::indices::byte;
 use crate::indices::widen;
+use rows::words::place_mask;
 
 fn put_four(cells: &mut [u32], at: usize, red: u32, green: u32, blue: u32, alpha: u32)
     requires { ⌜ at + 4 ≤ length (now cells) ⌝ }
@@ -46,16 +47,6 @@ fn each_cell(file: &[u8], from: usize, size: usize, n: usize, cells: &mut [u32],
         p += size;
         q += 4;
     }
-}
-
-// All ones at the wanted place, and none at others.
-fn place_mask(place: usize, wanted: usize) -> u8
-    ensures { λ r. ⌜ r ≡ cond (eqb place wanted) 255 0 ⌝ }
-{
-    if place == wanted {
-        return 255;
-    }
-    0
 }
 
 // Of eight bytes the one at a place, and 0 behind them. All are read and masked, as vector code needs it; a branch would

@@ -1,15 +1,15 @@
 -- A stream's rows, filled in from the bottom up.
 use mathlib.Core.Path.{_≡_, refl, sym, ap, _∙_, subst}
 use mathlib.Core.Bool.{false}
-use mathlib.Core.List.{List, _++_, append-assoc, append-nil}
-use Prim.Native.Nat.{ℕ, zero, suc, _+_, _-_, _*_, _≤_, _<_}
+use mathlib.Core.List.{List, _++_, append-assoc}
+use Prim.Native.Nat.{ℕ, suc, _+_, _-_, _*_, _≤_, _<_}
 use native.Mathlib.Nat.{suc-mul, mul-le-mul-right, zero-add}
 use native.Mathlib.Omega.{arith}
 use lib.ListN.{length, getD, take, drop, length-append, length-drop, length-take}
 use lib.Seq.{drop-drop, getD-drop, drop-at, length-take-le, take-append-le, take-take}
 use Rattle.leaves.specs.Lists.{tab, cat}
 use Rattle.leaves.specs.Put.{put}
-use Rattle.leaves.proofs.ListLaws.{length-tab, tab-ext, cat-ext, length-cat}
+use Rattle.leaves.proofs.ListLaws.{length-tab, tab-ext, cat-ext, cat-append, length-cat}
 use Rattle.leaves.proofs.Puts.{length-put, put-nil}
 use Rattle.format.specs.Decode.{filled, readRow, rowsBelow, decode}
 use Rattle.format.proofs.RowReading.{row-length}
@@ -35,8 +35,9 @@ put-before was a b xs ys e h =
 -- one list more at the front
 cat-front : (f : ℕ → List ℕ) (n : ℕ) → cat f (suc n) ≡ f 0 ++ cat (λ k. f (suc k)) n
 unfolding cat
-cat-front f zero = sym (append-nil (f 0))
-cat-front f (suc n) = ap (λ (l : List ℕ). l ++ f (suc n)) (cat-front f n) ∙ append-assoc (f 0) (cat (λ k. f (suc k)) n) (f (suc n))
+cat-front f n =
+    let e : suc n ≡ 1 + n = omega arith in
+    ap (cat f) e ∙ sym (cat-append f 1 n) ∙ ap (λ (l : List ℕ). f 0 ++ l) (cat-ext (λ k. f (1 + k)) (λ k. f (suc k)) n (λ k h. let q : 1 + k ≡ suc k = omega arith in ap f q))
 
 -- ---- the loop
 

@@ -1,19 +1,19 @@
 -- Laws of 24-bit cells of a row with red first, as bytes by places.
 use mathlib.Core.Path.{_≡_, refl, sym, ap, _∙_}
-use mathlib.Core.Bool.{false, cond}
-use mathlib.Core.List.{List, [], _∷_, _++_, append-nil, append-assoc}
+use mathlib.Core.Bool.{Bool, true, false, cond}
+use mathlib.Core.List.{List, [], _∷_, _++_, append-assoc}
 use Prim.Native.Nat.{ℕ, zero, suc, _+_, _-_, _*_, _%_, _≤_, _<_}
-use native.Mathlib.Nat.{add-zero, mod-eq-of-lt}
+use native.Mathlib.Nat.{mod-eq-of-lt}
 use native.Mathlib.Omega.{arith}
-use borrow.Author.Tests.{eq-eqb, ne-eqb}
-use lib.Bits.{bitAnd, bitOr, and-mask, and-zero-r, or-zero-r, or-comm}
-use lib.Dec.{eqb}
+use borrow.Author.Tests.{ltb-true, ltb-false, eqb-true, eqb-false, lt-ltb, le-ltb, eq-eqb, ne-eqb}
+use lib.Bits.{bitAnd, bitOr, and-mask, and-zero-r, or-zero-l, or-zero-r}
+use lib.Dec.{eqb, ltb}
 use lib.ListN.{length, getD, drop}
 use lib.Seq.{drop-at}
 use Rattle.leaves.specs.Lists.{tab, cat}
 use Rattle.leaves.specs.Put.{put}
 use Rattle.rows.specs.StoredRows.{cell24, exchangedByte}
-use Rattle.leaves.proofs.ListLaws.{length-tab}
+use Rattle.leaves.proofs.ListLaws.{length-tab, tab-append}
 use Rattle.leaves.proofs.Puts.{put-append}
 use Rattle.rows.proofs.Cells.{finished, length-cell24, one-cell, no-cell}
 
@@ -48,14 +48,6 @@ cells-bytes row (suc w) =
     rw (e, cells-bytes row w, blue row (w * 3) w refl, green row (suc (w * 3)) w (omega arith), red row (suc (suc (w * 3))) w (omega arith), z)
     (sym (append-assoc (t ++ (getD row (w * 3 + 2) 0 ∷ [])) (getD row (w * 3 + 1) 0 ∷ []) (getD row (w * 3) 0 ∷ []) ∙ append-assoc t (getD row (w * 3 + 2) 0 ∷ []) (getD row (w * 3 + 1) 0 ∷ getD row (w * 3) 0 ∷ [])))
 
--- n bytes more
-tab-more : (g : ℕ → ℕ) (i n : ℕ) → tab g (i + n) ≡ tab g i ++ tab (λ k. g (i + k)) n
-unfolding tab
-tab-more g i zero = rw (add-zero i) (sym (append-nil (tab g i)))
-tab-more g i (suc n) =
-    let e : i + suc n ≡ suc (i + n) = omega arith in
-    rw (e, tab-more g i n) (append-assoc (tab g i) (tab (λ k. g (i + k)) n) (g (i + n) ∷ []))
-
 length-bytes : (row : List ℕ) (x : ℕ) → length (cat (cell24 false row) x) ≡ x * 3
 length-bytes row x = ap length (cells-bytes row x) ∙ length-tab (exchangedByte row) (x * 3)
 
@@ -69,7 +61,7 @@ sixteen-cells row d₀ d e at x y was is next room =
     let p : at + x * 3 ≡ at + length (cat f x) = omega arith in
     let n : y * 3 ≡ x * 3 + 48 = omega arith in
     let s : cat f x ++ t ≡ cat f y =
-    ap (λ (z : List ℕ). z ++ t) (cells-bytes row x) ∙ sym (tab-more (exchangedByte row) (x * 3) 48) ∙ ap (tab (exchangedByte row)) (sym n) ∙ sym (cells-bytes row y) in
+    ap (λ (z : List ℕ). z ++ t) (cells-bytes row x) ∙ tab-append (exchangedByte row) (x * 3) 48 ∙ ap (tab (exchangedByte row)) (sym n) ∙ sym (cells-bytes row y) in
     rw (is, was, p) (put-append d₀ at (cat f x) t (omega arith) ∙ ap (put d₀ at) s)
 
 -- the cells after those that are put
@@ -82,7 +74,7 @@ cells-left row d b at x w h room was =
     let l = length-bytes row x in
     let n : w * 3 ≡ x * 3 + (w * 3 - x * 3) = omega arith in
     let s : cat f w ≡ cat f x ++ t =
-    cells-bytes row w ∙ ap (tab (exchangedByte row)) n ∙ tab-more (exchangedByte row) (x * 3) (w * 3 - x * 3) ∙ ap (λ (z : List ℕ). z ++ t) (sym (cells-bytes row x)) in
+    cells-bytes row w ∙ ap (tab (exchangedByte row)) n ∙ sym (tab-append (exchangedByte row) (x * 3) (w * 3 - x * 3)) ∙ ap (λ (z : List ℕ). z ++ t) (sym (cells-bytes row x)) in
     let r : drop (x * 3) (cat f w) ≡ t = ap (drop (x * 3)) s ∙ drop-at (cat f x) t (x * 3) l in
     let p : at + x * 3 ≡ at + length (cat f x) = omega arith in
     rw (r, was, p) (put-append d at (cat f x) t (omega arith)) ∙ ap (put d at) (sym s)
@@ -111,14 +103,37 @@ pub first-cell : (row d : List ℕ) (at : ℕ) (e : List ℕ) → e ≡ put d at
 unfolding cat
 first-cell row d at e is = is
 
--- of three bytes under masks the one whose mask has ones
-masked : (r a h b : ℕ) → r < 3 → a < 256 → h < 256 → b < 256
-    → bitOr (bitOr (bitAnd a (cond (eqb r 0) 255 0)) (bitAnd h (cond (eqb r 1) 255 0))) (bitAnd b (cond (eqb r 2) 255 0)) ≡ cond (eqb r 0) a (cond (eqb r 1) h b)
-masked zero a h b l p q t = rw (and-mask a 8, and-zero-r h, and-zero-r b, or-zero-r (a % 256), or-zero-r (a % 256)) (mod-eq-of-lt p)
-masked (suc zero) a h b l p q t = rw (and-zero-r a, and-mask h 8, and-zero-r b, or-zero-r (bitOr 0 (h % 256)), or-comm 0 (h % 256), or-zero-r (h % 256)) (mod-eq-of-lt q)
-masked (suc (suc zero)) a h b l p q t = rw (and-zero-r a, and-zero-r h, and-mask b 8) (mod-eq-of-lt t)
-masked (suc (suc (suc r))) a h b l p q t = absurd (omega arith)
+-- ---- of bytes under masks the one whose mask has ones
+
+pub under-mask : (b m place i : ℕ) → b < 256 → m ≡ cond (eqb place i) 255 0 → bitAnd b m ≡ cond (eqb place i) b 0
+under-mask b m place i h e = rw e (under (eqb place i))
+  where
+    under : (w : Bool) → bitAnd b (cond w 255 0) ≡ cond w b 0
+    under true = and-mask b 8 ∙ mod-eq-of-lt h
+    under false = and-zero-r b
+
+-- of the first n bytes, and of one more
+pub or-next : (g : ℕ → ℕ) (place n v w : ℕ) → v ≡ cond (ltb place n) (g place) 0 → w ≡ cond (eqb place n) (g n) 0 → bitOr v w ≡ cond (ltb place (n + 1)) (g place) 0
+or-next g place n v w ev ew = rw (ev, ew) (by (ltb place n) refl (eqb place n) refl)
+  where
+    by : (a : Bool) → ltb place n ≡ a → (b : Bool) → eqb place n ≡ b → bitOr (cond (ltb place n) (g place) 0) (cond (eqb place n) (g n) 0) ≡ cond (ltb place (n + 1)) (g place) 0
+    by true ea b eb =
+        let l : place < n = ltb-true place n ea in
+        rw (ea, ne-eqb place n (λ e. absurd (omega (arith, l, e))), lt-ltb place (n + 1) (omega arith)) (or-zero-r (g place))
+    by false ea true eb =
+        let e : place ≡ n = eqb-true place n eb in
+        rw (ea, eb, lt-ltb place (n + 1) (omega (arith, e))) (or-zero-l (g n) ∙ ap g (sym e))
+    by false ea false eb =
+        let l : n ≤ place = ltb-false place n ea in
+        rw (ea, eb, le-ltb place (n + 1) (omega (arith, eqb-false place n eb))) (or-zero-l 0)
+
+pub or-first : (g : ℕ → ℕ) (place w : ℕ) → w ≡ cond (eqb place 0) (g 0) 0 → w ≡ cond (ltb place 1) (g place) 0
+or-first g place w e = sym (or-zero-l w) ∙ or-next g place 0 0 w (rw (le-ltb place 0 (omega arith))) e
 
 pub masked-byte : (j a h b x y z : ℕ) → x ≡ cond (eqb (j % 3) 0) 255 0 → y ≡ cond (eqb (j % 3) 1) 255 0 → z ≡ cond (eqb (j % 3) 2) 255 0 → a < 256 → h < 256 → b < 256
     → bitOr (bitOr (bitAnd a x) (bitAnd h y)) (bitAnd b z) ≡ cond (eqb (j % 3) 0) a (cond (eqb (j % 3) 1) h b)
-masked-byte j a h b x y z ex ey ez p q t = rw (ex, ey, ez) (masked (j % 3) a h b (omega arith) p q t)
+masked-byte j a h b x y z ex ey ez p q t =
+    let g : ℕ → ℕ = λ i. cond (eqb i 0) a (cond (eqb i 1) h b) in
+    let one = or-first g (j % 3) (bitAnd a x) (under-mask a x (j % 3) 0 p ex) in
+    let two = or-next g (j % 3) 1 (bitAnd a x) (bitAnd h y) one (under-mask h y (j % 3) 1 q ey) in
+    or-next g (j % 3) 2 (bitOr (bitAnd a x) (bitAnd h y)) (bitAnd b z) two (under-mask b z (j % 3) 2 t ez) ∙ rw (lt-ltb (j % 3) 3 (omega arith))

@@ -10,6 +10,7 @@ ghost use Rattle.leaves.specs.Bytes.{le32};
 ghost use Rattle.leaves.specs.Lists.{tab, cat};
 ghost use Rattle.leaves.specs.Put.{put};
 ghost use Rattle.rows.specs.StoredRows.{cell24, cell32, exchangedByte};
+use crate::words::place_mask;
 use crate::words::put_each;
 use leaves::buffer::put_u32;
 
@@ -71,16 +72,6 @@ fn exchange_cell(src: &[u8], x: usize, dst: &mut [u8], at: usize)
     dst[at] = src[s + 2];
     dst[at + 1] = src[s + 1];
     dst[at + 2] = src[s];
-}
-
-// All ones at the wanted place, and none at others.
-fn place_mask(place: usize, wanted: usize) -> u8
-    ensures { λ r. ⌜ r ≡ cond (eqb place wanted) 255 0 ⌝ }
-{
-    if place == wanted {
-        return 255;
-    }
-    0
 }
 
 // Byte j of cells with red first: of the bytes two before it, at its place and two after it the one that

@@ -7,4 +7,4 @@ pub mod masks;
 pub mod pack;
 pub mod rle;
 mod windows;
-mod words;
+pub mod words;

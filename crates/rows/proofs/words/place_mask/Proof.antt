@@ -1,6 +1,6 @@
 use borrow.Author.Tests.{eq-eqb, ne-eqb}
-use Rattle.rows.proofs.exchange.place_mask.Statement.{statement}
-use Rattle.rows.proofs.exchange.place_mask.Tie as tie
+use Rattle.rows.proofs.words.place_mask.Statement.{statement}
+use Rattle.rows.proofs.words.place_mask.Tie as tie
 
 returns : tie.Need-returns
 returns c = let a = c .before .args in rw (eq-eqb (a .place) (a .wanted) (c .if1 .taken))
