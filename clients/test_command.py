@@ -40,7 +40,7 @@ def header_texts():
 REFUSALS = header_texts()
 
 # Five cells of index 7, with an empty palette and a minimal table.
-FIVE = bytes.fromhex("424D3E00000000000000" "3A000000" "28000000" "0500000001000000" "01000800" "01000000" "00000000"
+FIVE = bytes.fromhex("424D3E00000000000000" "3A000000" "28000000" "0500000001000000" "01000800" "01000000" "04000000"
                      "130B0000130B0000" "0100000000000000" "00000000" "05070001")
 
 Ran = namedtuple("Ran", "status out err")
@@ -451,7 +451,7 @@ class Pictures(Case):
             self.assertEqual((header(content), content[1078:] == zeros, len(content)), (plain, True, plain["bfSize"]))
         with self.subTest("zeros, packed"):
             content = self.done(*words)
-            packed = {**known, "bfSize": len(content), "biCompression": 1, "biSizeImage": 0}
+            packed = {**known, "bfSize": len(content), "biCompression": 1, "biSizeImage": len(content) - 1078}
             self.assertEqual(header(content), packed)
             self.assertTrue(unpacked(content[1078:]) == [bytes(side)] * side)
         self.write("large", noise)
@@ -532,8 +532,8 @@ class Sheets(Case):
         rows = [[min(255, (x - 110) ** 2 * 153 // (121 * (60 + y)) + y // 4) for x in range(200)] for y in range(200)]
         self.write("grid.csv", sheet(rows))
         ran = self.run_program("--csv", "grid.csv", "--sample-palette", "--out", "grid.bmp")
-        self.assertEqual(ran, Ran(0, b"grid.bmp: Rle8, 38784 bytes, cksum 4175103929\n", []))
-        self.assertEqual(cksum(self.read("grid.bmp")), 4175103929)
+        self.assertEqual(ran, Ran(0, b"grid.bmp: Rle8, 38784 bytes, cksum 189915939\n", []))
+        self.assertEqual(cksum(self.read("grid.bmp")), 189915939)
         self.assertEqual(b"".join(unpacked(self.read("grid.bmp")[1078:])), bytes(cell for row in rows for cell in row))
 
     def test_a_palette_from_a_file(self):

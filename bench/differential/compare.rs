@@ -1,8 +1,9 @@
 //! One case on both sides.
 
+use crate::agreed::agreed;
 use crate::case::{Case, Plane};
 use crate::counts::{Answer, Counts};
-use crate::original::{self, Original};
+use crate::original::{self, Original, WRITTEN};
 use crate::port;
 use crate::random::Random;
 use crate::rule;
@@ -103,14 +104,15 @@ fn check_write(
     original: &Original<'_>,
     bound: Result<u64, u32>,
     notes: &mut Vec<String>,
-) -> Answer {
-    let file = original.encode();
+) -> (Answer, bool) {
+    let mut file = original.encode();
     let len = bound.map_or(3 * case.slack, |b| case.offset + b as usize + case.slack);
     let mut buffer = pattern(len, case.salt);
     let mut expected = buffer.clone();
     if case.offset > 0 && case.offset <= len {
         check_append(original, &expected[..case.offset], file.as_ref().map(|f| f.1.as_slice()).map_err(|e| *e));
     }
+    let filled_in = file.as_mut().is_ok_and(|(format, file)| agreed(WRITTEN[*format as usize], file));
     let (answer, expected_answer) = match &file {
         Ok((format, file)) => {
             expected[case.offset..case.offset + file.len()].copy_from_slice(file);
@@ -123,7 +125,7 @@ fn check_write(
     if let Some(at) = first_different(&expected, &buffer) {
         notes.push(format!("buffer byte {at}: original {:#04x}, port {:#04x}", expected[at], buffer[at]));
     }
-    answer
+    (answer, filled_in)
 }
 
 /// Both sides on one case; the inputs must come out unchanged.
@@ -141,7 +143,11 @@ pub fn compare(case: &Case, zeros: &[u8], report: &mut Report) -> Answer {
     let answer = if case.is_large() && bound.is_ok() {
         Answer::BoundOnly
     } else {
-        check_write(case, zeros, &original, bound, &mut notes)
+        let (answer, filled_in) = check_write(case, zeros, &original, bound, &mut notes);
+        if filled_in {
+            report.counts.add_other("image sizes filled in");
+        }
+        answer
     };
     if let Some(before) = before {
         let kept = before.plane(zeros) == case.plane(zeros)

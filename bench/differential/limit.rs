@@ -1,10 +1,11 @@
 //! The true limit of 4,294,967,295 bytes, on sparse planes. The writing calls here are run on both sides.
 
+use crate::agreed::agreed;
 use crate::case::{Case, INDEXED4, PAL8, Plane};
 use crate::compare::{Report, compare};
 use crate::counts::Answer;
 use crate::exhaustive::simple;
-use crate::original::Original;
+use crate::original::{Original, WRITTEN};
 use crate::port;
 use crate::rule;
 use crate::sparse::Sparse;
@@ -134,7 +135,10 @@ fn compare_large(expected: &Expected, plane: &[u8], report: &mut Report) {
     let original = Original::new(case, plane);
     let bound = original.bound().expect("14 is not compared here");
     let (answer, number, format, file) = match original.encode() {
-        Ok((format, file)) => (Answer::File(format), 0, format, file),
+        Ok((format, mut file)) => {
+            agreed(WRITTEN[format as usize], &mut file);
+            (Answer::File(format), 0, format, file)
+        }
         Err(number) => (Answer::Refused(number), number, 0, Vec::new()),
     };
     let wanted = port::Answer { bytes: file.len() as u64, refusal: number, format };

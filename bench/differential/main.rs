@@ -1,5 +1,6 @@
 //! The original encoder and the port on the same cases. README.md says what is compared.
 
+mod agreed;
 mod case;
 mod compare;
 mod counts;

@@ -1,10 +1,12 @@
 //! The port and the original on the same pictures: time of a writing call.
 //!
 //! Both write into memory that is there before: the original appends to a Vec with capacity, the port into a lent buffer
-//! that is not cleared. Files are compared first. Rounds are interleaved, and of each side the least time counts; the
+//! that is not cleared. Files are compared first, with the agreed differences. Rounds are interleaved, and of each side the least time counts; the
 //! spread is the least and the greatest ratio among five parts of the rounds, each with its own least times. The last
 //! column is a copy of the file's bytes. `speed FACTOR NAME` runs the workloads with NAME in their names. A second table has the port's time by the picture's size.
 
+#[path = "../differential/agreed.rs"]
+mod agreed;
 #[path = "../differential/port.rs"]
 #[allow(dead_code)]
 mod port;
@@ -185,6 +187,7 @@ fn measure(w: &Work, rounds: usize) -> (Vec<Times>, String, usize) {
     let mut appended = Vec::with_capacity(bound);
     let answer = port::encode_into(source, raw, lent, &mut out, 0);
     let format = differential_append(&picture, &options, &mut appended).unwrap();
+    agreed::agreed(format, &mut appended);
     assert_eq!(answer.refusal, 0);
     assert!(out[..answer.bytes as usize] == appended[..], "{}: the files differ", w.name);
     let len = appended.len();

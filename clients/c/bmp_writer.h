@@ -202,7 +202,8 @@ BMP_BYTES(bmp_reading_sizes, 40);
 #undef BMP_FACT
 
 /* Appends the file at `offset` of `out`, which has `out_len` bytes. With a refusal no byte of `out` has changed;
- * with a file none outside the bytes answered. A palette entry is four bytes: red, green, blue, alpha. */
+ * with a file none outside the bytes answered. A palette entry is four bytes: red, green, blue, alpha. The header's
+ * image size holds the bytes of the pixels; only a 40-byte header without compression has 0 there. */
 bmp_answer bmp_encode_into(bmp_source source, bmp_options options, const uint8_t *plane, size_t plane_len,
                            const uint8_t *palette, size_t palette_len, const uint8_t *icc, size_t icc_len,
                            const uint8_t *linked_icc, size_t linked_icc_len, uint8_t *out, size_t out_len,

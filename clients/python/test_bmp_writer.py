@@ -28,7 +28,7 @@ ROOT = os.path.join(HERE, "../..")
 GREYS = [(shade, shade, shade) for shade in range(256)]
 BUILD = "rt staticlib capi && bash clients/build.sh"
 
-M12 = bytes.fromhex("424D3E0000000000000" "03A000000280000000500000001000000010008000100000000000000130B0000130B00000100000000"
+M12 = bytes.fromhex("424D3E0000000000000" "03A000000280000000500000001000000010008000100000004000000130B0000130B00000100000000"
                     "000000000000000507" "0001")
 
 
@@ -85,6 +85,24 @@ class Files(Case):
         self.assertEqual(encode(b"\7" * 5, 5, 1, "Pal8", palette=[], options=options), (M12, "Rle8"))
         self.assertEqual(encode(b"\7" * 5, 5, 1, "Pal8", palette_rgba=b"", options=options), (M12, "Rle8"))
         self.assertEqual(size_bound(b"\7" * 5, 5, 1, "Pal8", palette=(), options=options), 78)
+
+    def test_the_image_size(self):
+        """The bytes of the pixels in RLE files and mask files, and in the longer headers; else 0."""
+        masks = [EncodeOptions(bitfields=Bitfields(16, (0xF800, 0x7E0, 0x1F, 0))),
+                 EncodeOptions(bitfields=Bitfields(32, (0xFF, 0xFF00, 0xFF0000, 0xFF000000)), top_down=True)]
+        calibrated = EncodeOptions(calibrated_rgb=CalibratedRgb([0] * 9, [0] * 3))
+        for written, size, layout, plane, options, profile in (
+                ("Rle8", 10, "Pal8", b"\7" * 13 + b"\1" * 5, None, None), ("Rle4", 8, "Indexed4", b"\7" * 18, None, None),
+                ("Bitfields", 40, "Rgb24", bytes(54), masks[0], None), ("AlphaBitfields", 72, "Rgba", bytes(72), masks[1], None),
+                ("Indexed8", 0, "Pal8", bytes(range(18)), None, None), ("Rgb24", 0, "Rgb24", bytes(54), None, None),
+                ("Rgb16Bitfields", 40, "Rgb565", bytes(36), None, None), ("Rgb24", 56, "Rgb24", bytes(54), calibrated, None),
+                ("Indexed8", 24, "Pal8", b"\7" * 18, None, b"profile")):
+            with self.subTest(written):
+                palette = [] if layout in ("Pal8", "Indexed4") else None
+                file, answered = encode(plane, 9, 2, layout, palette=palette, options=options, icc=profile)
+                self.assertEqual((answered, int.from_bytes(file[34:38], "little")), (written, size))
+                if int.from_bytes(file[30:34], "little"):
+                    self.assertEqual(len(file) - int.from_bytes(file[10:14], "little"), size)
 
     def test_every_refusal_that_a_call_can_give(self):
         self.refused(1, b"", 0, 1, "Pal8", palette=[])

@@ -128,7 +128,7 @@ abbrev pub firstPart : Input → ℕ → List ℕ
 firstPart i n =
     fileHeader n (headBytes i)
     ++ infoHeader (headerSize (modeIn i) (i .source .format)) (i .source .width) (storedHeight i) (depthIn i) (compressionOf maxFile i)
-    (imageSize i) pelsPerMeter pelsPerMeter (clrUsed (depthIn i) (entriesOf i))
+    (imageSize maxFile i) pelsPerMeter pelsPerMeter (clrUsed (depthIn i) (entriesOf i))
 
 -- what stands between them and the table
 abbrev pub restPart : Input → List ℕ
@@ -183,13 +183,13 @@ pub pixels-at : (i : Input) → drop (headBytes i) (fileOf maxFile i) ≡ pixels
 unfolding fileOf
 pixels-at i =
     rw append-assoc
-    (drop-at (headOf i (compressionOf maxFile i) (imageSize i) pelsPerMeter pelsPerMeter (fileSize maxFile i)) (pixels maxFile i ++ tailOf i) (headBytes i)
-    (length-head i (compressionOf maxFile i) (imageSize i) pelsPerMeter pelsPerMeter (fileSize maxFile i)))
+    (drop-at (headOf i (compressionOf maxFile i) (imageSize maxFile i) pelsPerMeter pelsPerMeter (fileSize maxFile i)) (pixels maxFile i ++ tailOf i) (headBytes i)
+    (length-head i (compressionOf maxFile i) (imageSize maxFile i) pelsPerMeter pelsPerMeter (fileSize maxFile i)))
 
 -- the file is as long as its size says
 pub length-file : (i : Input) → length (fileOf maxFile i) ≡ fileSize maxFile i
 unfolding fileOf fileSize
-length-file i = simp (length-append, length-head i (compressionOf maxFile i) (imageSize i) pelsPerMeter pelsPerMeter (fileSize maxFile i)) (omega arith)
+length-file i = simp (length-append, length-head i (compressionOf maxFile i) (imageSize maxFile i) pelsPerMeter pelsPerMeter (fileSize maxFile i)) (omega arith)
 
 -- ---- the file's fields
 
@@ -211,7 +211,7 @@ pub fields-read : (i : Input) → Accepted i → fieldsOf (fileOf maxFile i) ≡
 fields-read i a =
     rw (file-parts i)
     (first-fields (fileSize maxFile i) (headBytes i) (headerSize (modeIn i) (i .source .format)) (i .source .width) (storedHeight i) (depthIn i)
-    (compressionOf maxFile i) (imageSize i) pelsPerMeter pelsPerMeter (clrUsed (depthIn i) (entriesOf i))
+    (compressionOf maxFile i) (imageSize maxFile i) pelsPerMeter pelsPerMeter (clrUsed (depthIn i) (entriesOf i))
     (restPart i ++ (colourTable i ++ (pixels maxFile i ++ tailOf i))) (omega (arith, head-le i a))
     (omega (arith, header-le (modeIn i) (i .source .format))) (omega (arith, a .wide)) (height-lt (i .options .«top_down») (i .source .height) (a .some-height) (a .tall))
     (omega (arith, depth-le (i .source) (i .options) (λ e. a .masks e .depths))) (omega (arith, compression-le i))

@@ -11,6 +11,7 @@ pub mod HeadFields
 pub mod HeadMasks
 pub mod HeadTable
 pub mod HeadWhole
+pub mod ImageSize
 pub mod MaskedCells
 pub mod Modes
 pub mod OddFiles

@@ -88,9 +88,11 @@ storedHeight i = cond (i .options .«top_down») (4294967296 - i .source .height
 unfoldable pub compressionOf : ℕ → Input → ℕ
 compressionOf limit i = cond (streamUsed limit i) (cond (eqb (bitsPerPixel (i .source .format)) 8) 1 2) (rowsCompression (i .source) (i .options))
 
--- "Image size is 0 in every 40-byte header and the raw bytes in the others"
-unfoldable pub imageSize : Input → ℕ
-imageSize i = cond (eqb (headerSize (modeIn i) (i .source .format)) 40) 0 (rawBytes i)
+-- Document 02, A.2: "RLE files and mask files now carry the pixel bytes as stored". Document 01's "Image size is 0 in every 40-byte header and the
+-- raw bytes in the others" holds for compression 0 only.
+unfoldable pub imageSize : ℕ → Input → ℕ
+imageSize limit i =
+    cond (eqb (compressionOf limit i) 0) (cond (eqb (headerSize (modeIn i) (i .source .format)) 40) 0 (rawBytes i)) (length (pixels limit i))
 
 -- "Resolution is 2835 in each direction"
 abbrev pub pelsPerMeter : ℕ
@@ -113,7 +115,7 @@ fileSize limit i = headBytes i + length (pixels limit i) + length (tailOf i)
 
 -- "The head is everything before the pixels"; "profile after the pixels"
 unfoldable pub fileOf : ℕ → Input → List ℕ
-fileOf limit i = headOf i (compressionOf limit i) (imageSize i) pelsPerMeter pelsPerMeter (fileSize limit i) ++ pixels limit i ++ tailOf i
+fileOf limit i = headOf i (compressionOf limit i) (imageSize limit i) pelsPerMeter pelsPerMeter (fileSize limit i) ++ pixels limit i ++ tailOf i
 
 -- ---- bound and format
 

@@ -119,7 +119,7 @@ module _ (i : Input) (profile : List ℕ) (e : profile ≡ tailOf i) where
   unfolding fileOf headOf colourTable imageSize compressionOf fileSize pixels streamUsed budget streamOf storedRowsOf
   same-file =
       λ z. (fileHeader (same-size z) (headBytes i)
-      ++ infoHeader (headerSize (modeIn i) (i .source .format)) (i .source .width) (storedHeight i) (depthIn i) (compressionOf maxFile i) (imageSize i) pelsPerMeter pelsPerMeter (clrUsed (depthIn i) (entriesOf i))
+      ++ infoHeader (headerSize (modeIn i) (i .source .format)) (i .source .width) (storedHeight i) (depthIn i) (compressionOf maxFile i) (imageSize maxFile i) pelsPerMeter pelsPerMeter (clrUsed (depthIn i) (entriesOf i))
       ++ headRest (modeIn i) (i .source) (i .options) (length (tails z)) (headBytes i - 14 + rawBytes i)
       ++ colourTable i) ++ pixels maxFile i ++ tails z
 

@@ -1,16 +1,16 @@
 -- Laws of the functions that write a file: the head, then the stream, or the stored rows and the profile.
 use mathlib.Core.Path.{_≡_, refl, sym, ap, subst, _∙_}
 use mathlib.Core.Bool.{Bool, true, false, not, cond, false≢true}
-use mathlib.Core.List.{List, [], _++_, append-nil}
+use mathlib.Core.List.{List, _++_, append-nil}
 use Prim.Native.Nat.{ℕ, _+_, _-_, _*_, _≤_, _<_, min}
 use native.Mathlib.Omega.{arith}
 use borrow.Author.Tests.{eqb-true}
-use lib.Dec.{eqb, ltb}
+use lib.Dec.{eqb}
 use lib.ListN.{length, length-append}
 use Rattle.leaves.specs.declared.encoder.EncodedBmpFormat.{EncodedBmpFormat}
 use Rattle.leaves.specs.declared.encoder.EncodedBmpFormat.the-variants as written
 use Rattle.leaves.specs.declared.image.BmpPixelFormat.{BmpPixelFormat}
-use Rattle.leaves.specs.Formats.{bytesPerPixel, bitsPerPixel, isRgb565}
+use Rattle.leaves.specs.Formats.{bytesPerPixel, bitsPerPixel}
 use Rattle.leaves.specs.Put.{put}
 use Rattle.leaves.specs.Lists.{cat}
 use Rattle.leaves.specs.Sizes.{rowStride, clrUsed}
@@ -23,16 +23,16 @@ use Rattle.rows.specs.Stream.{stream}
 use Rattle.format.specs.declared.layout.Coding.{Coding}
 use Rattle.format.specs.declared.layout.Coding.the-variants.{Stream, Nothing}
 use Rattle.format.specs.declared.layout.Layout.{Layout}
-use Rattle.format.specs.declared.layout.Mode.{Mode}
 use Rattle.format.specs.declared.layout.Mode.the-variants.{Plain}
 use Rattle.format.specs.File.{modeIn, depthIn, packIn, rlePlanned, rawBytes, entriesOf, headBytes, tailOf, streamOf, maxFile, budget, streamUsed, storedRowsOf, pixels, tableEntry, colourTable, storedHeight, compressionOf, imageSize, pelsPerMeter, headOf, fileSize, fileOf, plainSize, formatOf}
 use Rattle.format.specs.Input.{Input}
-use Rattle.format.specs.Layout.{headerSize, headRest, headLen, rawLen, rowsCompression, rowsFormat, codingAt, isStream, coded, wantsRle, codingOf, layoutOf}
+use Rattle.format.specs.Layout.{headerSize, headRest, headLen, rawLen, rowsCompression, rowsFormat, codingAt, isStream, coded, codingOf, layoutOf}
 use Rattle.format.proofs.Acceptance.{Checked, rows-long, plan-passed}
+use Rattle.format.proofs.ImageSize.{compressed-size, stream-compression}
 use Rattle.format.proofs.FileSizes.{pack-ok}
 use Rattle.format.proofs.HeadFields.{length-head}
 use Rattle.format.proofs.HeadTable.{entries-small}
-use Rattle.format.proofs.Modes.{both, coded-cases, PlannedIn, planned-in, used-in, tail-empty, no-tail}
+use Rattle.format.proofs.Modes.{coded-cases, PlannedIn, planned-in, used-in, tail-empty, no-tail}
 use Rattle.format.proofs.PlainBody.{pack-bytes}
 use Rattle.planner.specs.declared.encoder.Encoded.the-variants as encoded
 use Rattle.planner.specs.declared.plan.Sizes.{Sizes}
@@ -172,12 +172,8 @@ module _ (i : Input) (l : Layout) (sizes : Sizes) (rle : Rle) (len : ℕ) (k : S
   unfolding fileSize
   stream-size = omega (arith, sizes-head i sizes (k .planned .sizes-are), k .long, ap length stream-pixels, no-tail i stream-plan)
 
-  -- a stream's header has 40 bytes
-  stream-image : 0 ≡ imageSize i
-  unfolding imageSize
-  stream-image =
-      sym ((λ z. cond (eqb (headerSize (stream-plan .mode z) (i .source .format)) 40) 0 (rawBytes i))
-      ∙ ap (λ (b : Bool). cond (eqb (cond b 108 40) 40) 0 (rawBytes i)) (coded-cases (λ (f : BmpPixelFormat). isRgb565 f ≡ false) refl refl (i .source .format) (stream-plan .source)))
+  stream-image : len ≡ imageSize maxFile i
+  stream-image = k .long ∙ sym (compressed-size maxFile i (stream-compression maxFile i (k .used)) ∙ ap length stream-pixels)
 
   -- the answer
   pub stream-answer : (format : EncodedBmpFormat) → format ≡ cond (codes.isRle4 rle) written.Rle4 written.Rle8
@@ -187,20 +183,20 @@ module _ (i : Input) (l : Layout) (sizes : Sizes) (rle : Rle) (len : ℕ) (k : S
 
   -- the file
   pub stream-written : (d b1 b2 : List ℕ) (at compression : ℕ) → compression ≡ cond (codes.isRle4 rle) 2 1 → at + sizes .head + len ≤ length d
-      → b1 ≡ put d at (headBy l (i .source) (i .options) (i .palette) (sizes .head) compression 0 (sizes .head + len) 0 0)
+      → b1 ≡ put d at (headBy l (i .source) (i .options) (i .palette) (sizes .head) compression len (sizes .head + len) 0 0)
       → b2 ≡ put b1 (at + sizes .head) (stream (codes.depthOf (codes.isRle4 rle)) (i .source .width) (i .source .height) (i .plane) (i .source .stride))
       → b2 ≡ put d at (fileOf maxFile i)
   unfolding fileOf compressionOf
   stream-written d b1 b2 at compression ec room e1 e2 =
       let p = k .planned in
-      let top = headOf i (compressionOf maxFile i) (imageSize i) pelsPerMeter pelsPerMeter (fileSize maxFile i) in
+      let top = headOf i (compressionOf maxFile i) (imageSize maxFile i) pelsPerMeter pelsPerMeter (fileSize maxFile i) in
       let c : compression ≡ compressionOf maxFile i = ec ∙ by-coding 1 2 (rowsCompression (i .source) (i .options)) in
       let eh = sizes-head i sizes (p .sizes-are) in
-      let h : headBy l (i .source) (i .options) (i .palette) (sizes .head) compression 0 (sizes .head + len) 0 0 ≡ top
+      let h : headBy l (i .source) (i .options) (i .palette) (sizes .head) compression len (sizes .head + len) 0 0 ≡ top
       = (λ z. headBy (p .layout-is z) (i .source) (i .options) (i .palette) (eh z) (c z) (stream-image z) (stream-size z) 0 0)
-      ∙ head-plain i (compressionOf maxFile i) (imageSize i) (fileSize maxFile i) 0 0 (length (tailOf i)) (headBytes i - 14 + rawBytes i) (stream-plan .mode)
-      ∙ head-of i (compressionOf maxFile i) (imageSize i) (fileSize maxFile i) in
-      let long = length-head i (compressionOf maxFile i) (imageSize i) pelsPerMeter pelsPerMeter (fileSize maxFile i) ∙ sym eh in
+      ∙ head-plain i (compressionOf maxFile i) (imageSize maxFile i) (fileSize maxFile i) 0 0 (length (tailOf i)) (headBytes i - 14 + rawBytes i) (stream-plan .mode)
+      ∙ head-of i (compressionOf maxFile i) (imageSize maxFile i) (fileSize maxFile i) in
+      let long = length-head i (compressionOf maxFile i) (imageSize maxFile i) pelsPerMeter pelsPerMeter (fileSize maxFile i) ∙ sym eh in
       put-next d b1 b2 top (streamOf i) at (sizes .head) (at + sizes .head) long refl (omega arith) (e1 ∙ ap (put d at) h)
       (e2 ∙ ap (put b1 (at + sizes .head)) (stream-coded i l rle (p .layout-is) (k .coded)))
       ∙ ap (put d at) (sym ((λ z. top ++ stream-pixels z ++ tail-empty i stream-plan z) ∙ append-nil (top ++ streamOf i)))
@@ -247,7 +243,7 @@ module _ (i : Input) (l : Layout) (sizes : Sizes) (p : Planned i l sizes) where
         λ z. encoded.File (f z) (rows-size z)
 
     -- the file
-    pub rows-written : (d b1 b2 b3 profile : List ℕ) (at image : ℕ) → profile ≡ tailOf i → image ≡ cond (eqb (l .«header_size») 40) 0 (sizes .raw) → at + sizes .head + sizes .raw ≤ length d
+    pub rows-written : (d b1 b2 b3 profile : List ℕ) (at image : ℕ) → profile ≡ tailOf i → image ≡ cond (eqb (l .compression) 0) (cond (eqb (l .«header_size») 40) 0 (sizes .raw)) (sizes .raw) → at + sizes .head + sizes .raw ≤ length d
         → b1 ≡ put d at (headBy l (i .source) (i .options) (i .palette) (sizes .head) (l .compression) image (sizes .file) (length profile) (sizes .head - 14 + sizes .raw))
         → b2 ≡ put b1 (at + sizes .head) (storedRows (l .pack) (i .source .width) (i .source .height) (i .options .«top_down») (i .plane) (i .source .stride))
         → b3 ≡ put b2 (at + sizes .head + sizes .raw) profile → b3 ≡ put d at (fileOf maxFile i)
@@ -257,12 +253,13 @@ module _ (i : Input) (l : Layout) (sizes : Sizes) (p : Planned i l sizes) where
         let er = sizes-raw i sizes (p .sizes-are) in
         let c : l .compression ≡ compressionOf maxFile i = ap (λ (x : Layout). x .compression) (p .layout-is)
         ∙ sym (ap (λ (b : Bool). cond b (cond (eqb (bitsPerPixel (i .source .format)) 8) 1 2) (rowsCompression (i .source) (i .options))) u) in
-        let m : image ≡ imageSize i = ei ∙ (λ z. cond (eqb (p .layout-is z .«header_size») 40) 0 (er z)) in
-        let top = headOf i (compressionOf maxFile i) (imageSize i) pelsPerMeter pelsPerMeter (fileSize maxFile i) in
+        let stored : sizes .raw ≡ length (pixels maxFile i) = er ∙ sym (ap length rows-pixels ∙ rows-long i rows-checked) in
+        let m : image ≡ imageSize maxFile i = ei ∙ (λ z. cond (eqb (c z) 0) (cond (eqb (p .layout-is z .«header_size») 40) 0 (er z)) (stored z)) in
+        let top = headOf i (compressionOf maxFile i) (imageSize maxFile i) pelsPerMeter pelsPerMeter (fileSize maxFile i) in
         let h : headBy l (i .source) (i .options) (i .palette) (sizes .head) (l .compression) image (sizes .file) (length profile) (sizes .head - 14 + sizes .raw) ≡ top
         = (λ z. headBy (p .layout-is z) (i .source) (i .options) (i .palette) (eh z) (c z) (m z) (rows-size z) (length (et z)) (eh z - 14 + er z))
-        ∙ head-of i (compressionOf maxFile i) (imageSize i) (fileSize maxFile i) in
-        let long : length top ≡ sizes .head = length-head i (compressionOf maxFile i) (imageSize i) pelsPerMeter pelsPerMeter (fileSize maxFile i) ∙ sym eh in
+        ∙ head-of i (compressionOf maxFile i) (imageSize maxFile i) (fileSize maxFile i) in
+        let long : length top ≡ sizes .head = length-head i (compressionOf maxFile i) (imageSize maxFile i) pelsPerMeter pelsPerMeter (fileSize maxFile i) ∙ sym eh in
         let all : length (top ++ storedRowsOf i) ≡ sizes .head + sizes .raw = length-append top (storedRowsOf i) ∙ omega (arith, long, er, rows-long i rows-checked) in
         let rows : storedRows (l .pack) (i .source .width) (i .source .height) (i .options .«top_down») (i .plane) (i .source .stride) ≡ storedRowsOf i
         = ap (λ (q : RowPack). storedRows q (i .source .width) (i .source .height) (i .options .«top_down») (i .plane) (i .source .stride)) pack-is in

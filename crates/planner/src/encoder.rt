@@ -33,6 +33,7 @@ use leaves::encoder::EncodedBmpFormat;
 use leaves::encoder::clr_used;
 use leaves::error::Refusal;
 use leaves::options::EncodeOptions;
+use leaves::types::BI_RGB;
 use leaves::types::BITMAPINFOHEADER_SIZE;
 use leaves::types::LCS_CALIBRATED_RGB;
 use leaves::types::LCS_S_RGB;
@@ -113,10 +114,13 @@ fn write_rest(
     }
 }
 
-// biSizeImage of stored rows: 0 in a 40-byte header.
-fn image_size(header_size: u32, raw: u32) -> u32
-    ensures { λ r. ⌜ r ≡ cond (eqb «header_size» 40) 0 raw ⌝ }
+// biSizeImage of stored rows: their bytes, but 0 with compression 0 in a 40-byte header.
+fn image_size(compression: u32, header_size: u32, raw: u32) -> u32
+    ensures { λ r. ⌜ r ≡ cond (eqb compression 0) (cond (eqb «header_size» 40) 0 raw) raw ⌝ }
 {
+    if compression != BI_RGB {
+        return raw;
+    }
     if header_size == BITMAPINFOHEADER_SIZE {
         return 0;
     }
@@ -195,7 +199,7 @@ fn write_stream(
         palette,
         head,
         rle.compression(),
-        0,
+        len as u32,
         size as u32,
         0,
         0,
@@ -246,7 +250,7 @@ fn write_rows(
         palette,
         head,
         layout.compression,
-        image_size(layout.header_size, raw),
+        image_size(layout.compression, layout.header_size, raw),
         sizes.file as u32,
         profile.len() as u32,
         (head - 14) as u32 + raw,

@@ -18,7 +18,7 @@ use Rattle.format.proofs.Acceptance.{Checked, checked, plan-passed}
 use Rattle.format.proofs.Passing.{first-parts, and-false}
 use Rattle.reference.specs.Rust.{done, _>>=_, rleOverLimit}
 use Rattle.reference.specs.Plan.{Plan, maxFile, wrote, refused, appended, newPlan, writeInto, encodeSource}
-use Rattle.reference.specs.Compared.{sourceOf, optionsOf, agreed, agreedFile, agreedBehind, Typed, Domain, sizeBound, encodeBehind, fileRows, SameAnswers}
+use Rattle.reference.specs.Compared.{sourceOf, optionsOf, outcome, answer, agreed, agreedFile, agreedBehind, Typed, Domain, sizeBound, encodeBehind, fileRows, SameAnswers}
 use Rattle.reference.proofs.Original.{originalFile}
 use Rattle.reference.proofs.Bridge.{bridge}
 use Rattle.reference.proofs.PackingLaws.{packOf}
@@ -80,18 +80,29 @@ module _ (i : Input) (ok : Typed i) (domain : Domain i) where
       go true = refl
       go false = rw (take-append-seam out (originalFile maxFile i), drop-append-seam out (originalFile maxFile i))
 
-  file-follows : Follows (fileRows i) (encodeSource (sourceOf i) (optionsOf i) >>= agreedFile i) (done (fileOf maxFile i, formatOf maxFile i))
+  -- encode_source, with the file as the original itself writes it
+  own-follows : Follows (fileRows i) (encodeSource (sourceOf i) (optionsOf i)) (done (originalFile maxFile i, formatOf maxFile i))
   unfolding fileRows encodeSource
-  file-follows =
+  own-follows =
       let over = streamOverBudget maxFile i in
-      follow.then (planRows maxFile i) ((over, StreamOverBudget) ∷ []) _ _ _
-      (follow.on (planRows maxFile i) _ _ (agreedFile i) (follow.on (planRows maxFile i) _ _ (λ plan. writeInto plan [] >>= appended) plan-follows))
-      (λ p. follow.from ((over, StreamOverBudget) ∷ []) _ _ _ (ap (λ r. r >>= appended >>= agreedFile i) (written-is p [] (omega (arith, bound-small maxFile (omega arith) i ok (plan-passed i p .0) (plan-passed i p .1)))))
-      (follow.to ((over, StreamOverBudget) ∷ []) _ _ _ (follow.on ((over, StreamOverBudget) ∷ []) _ _ (agreedFile i) (last over)) (λ _. ap (λ x. done (x, formatOf maxFile i)) (document-is p))))
+      follow.then (planRows maxFile i) ((over, StreamOverBudget) ∷ []) _ _ _ (follow.on (planRows maxFile i) _ _ (λ plan. writeInto plan [] >>= appended) plan-follows)
+      (λ p. follow.from ((over, StreamOverBudget) ∷ []) _ _ _ (ap (λ r. r >>= appended) (written-is p [] (omega (arith, bound-small maxFile (omega arith) i ok (plan-passed i p .0) (plan-passed i p .1))))) (last over))
     where
       last : (b : Bool) → Follows ((b, StreamOverBudget) ∷ []) (appended (cond b (refused rleOverLimit []) (wrote (formatOf maxFile i) (originalFile maxFile i)))) (done (originalFile maxFile i, formatOf maxFile i))
       last true = follow.row-fails true StreamOverBudget rleOverLimit _ refl
       last false = follow.row-passes false StreamOverBudget _ refl
+
+  passed-plan : firstOf (fileRows i) ≡ Passed → firstOf (planRows maxFile i) ≡ Passed
+  unfolding fileRows
+  passed-plan p = first-parts (planRows maxFile i) ((streamOverBudget maxFile i, StreamOverBudget) ∷ []) p .0
+
+  file-follows : Follows (fileRows i) (encodeSource (sourceOf i) (optionsOf i) >>= agreedFile i) (done (fileOf maxFile i, formatOf maxFile i))
+  file-follows =
+      follow.to (fileRows i) _ _ _ (follow.on (fileRows i) _ _ (agreedFile i) own-follows) (λ p. ap (λ x. done (x, formatOf maxFile i)) (document-is (passed-plan p)))
+
+  -- the original's own file, before the agreed differences
+  pub own-answer : outcome (encodeSource (sourceOf i) (optionsOf i)) ≡ answer (firstOf (fileRows i)) (originalFile maxFile i, formatOf maxFile i)
+  own-answer = follow.answered (fileRows i) _ _ own-follows
 
   -- bound, file, format and refusal
   pub same-answers : SameAnswers i

@@ -1,16 +1,20 @@
 -- What the original is handed for a call, and which of its answers is which of document 01's.
-use Prim.Native.Nat.{ℕ, _+_, _*_, _/_, _^_, _<_}
-use mathlib.Core.Bool.{Bool, cond}
+use Prim.Native.Nat.{ℕ, _+_, _-_, _*_, _/_, _^_, _<_}
+use mathlib.Core.Bool.{Bool, true, false, cond}
 use mathlib.Core.Path.{_≡_}
 use mathlib.Core.List.{List, [], _∷_, _++_}
 use lib.ListN.{length, getD, take, drop}
 use Rattle.leaves.specs.declared.error.Check.{Check}
 use Rattle.leaves.specs.declared.error.Check.the-variants as check
 use Rattle.leaves.specs.declared.encoder.EncodedBmpFormat.{EncodedBmpFormat}
+use Rattle.leaves.specs.declared.encoder.EncodedBmpFormat.the-variants.{Rgb32, Rgb24, Rgb16Rgb, Rgb16Bitfields, Indexed8, Indexed4, Indexed2, Rle8, Rle4, Indexed1, Bitfields, AlphaBitfields}
+use Rattle.leaves.specs.Bytes.{le32}
 use Rattle.leaves.specs.Lists.{tab}
+use Rattle.leaves.specs.Put.{put}
 use Rattle.leaves.specs.Refusals.{numberOf, firstOf, firstNumber}
 use Rattle.format.specs.File as document
 use Rattle.format.specs.Input.{Input}
+use Rattle.format.specs.Readers.{dwordAt}
 use Rattle.format.specs.Refusals.{planRows, streamOverBudget}
 use Rattle.leaves.specs.declared.error.Refusal.{Refusal}
 use Rattle.leaves.specs.declared.error.Refusal.the-variants.{ZeroDimension, DimensionTooLarge, PaletteMissing, PaletteNotQuads, SeveralModes, MaskDepth, MaskAboveDepth, MaskNotOneRun, MaskOverlap, NoColourMask, MaskSource, PlaneTooShort, StrideTooShort, FileTooLarge, BufferTooShort, StreamOverBudget}
@@ -112,10 +116,28 @@ answer (check.Refused why) a = refuses (numberOf why) (rustKind why)
 
 -- ---- the agreed differences
 
--- Byte equality is with the original's file after this: what the original's own file, of this format, becomes here. No difference is agreed: it is the
--- identity.
+-- "RLE files and mask files" (document 02, A.2)
+abbrev pub isRleOrMasks : EncodedBmpFormat → Bool
+isRleOrMasks Rgb32 = false
+isRleOrMasks Rgb24 = false
+isRleOrMasks Rgb16Rgb = false
+isRleOrMasks Rgb16Bitfields = false
+isRleOrMasks Indexed8 = false
+isRleOrMasks Indexed4 = false
+isRleOrMasks Indexed2 = false
+isRleOrMasks Rle8 = true
+isRleOrMasks Rle4 = true
+isRleOrMasks Indexed1 = false
+isRleOrMasks Bitfields = true
+isRleOrMasks AlphaBitfields = true
+
+-- biSizeImage filled in, by numbers of the file itself: its length less bfOffBits
+unfoldable pub withImageSize : List ℕ → List ℕ
+withImageSize file = put file 34 (le32 (length file - dwordAt file 10))
+
+-- "Byte equality is with the Rust's file after those four bytes are filled in": what the original's own file, of this format, becomes here
 unfoldable pub agreed : Input → List ℕ → EncodedBmpFormat → List ℕ
-agreed i file format = file
+agreed i file format = cond (isRleOrMasks format) (withImageSize file) file
 
 -- of what `encode_source` returns
 abbrev pub agreedFile : Input → List ℕ × EncodedBmpFormat → Run (List ℕ × EncodedBmpFormat)

@@ -30,17 +30,6 @@ pub(crate) fn expected(head: &[u8]) -> Answer {
     }
 }
 
-// The agreed differences from the original: what is expected of a call for which the original gives `wanted`
-// and this file. None today.
-pub(crate) fn agreed(
-    src: EncodeSource,
-    options: EncodeOptions,
-    wanted: Answer,
-    file: &mut [u8],
-) -> Answer {
-    wanted
-}
-
 pub(crate) fn same(a: Answer, b: Answer) -> bool {
     if a.number != b.number || a.format != b.format || a.bytes != b.bytes {
         return false;

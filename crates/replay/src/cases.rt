@@ -1,6 +1,6 @@
 // A case: its calls are run, and what they answer and write is compared with what is expected.
+use crate::agreed::agreed;
 use crate::answers::Answer;
-use crate::answers::agreed;
 use crate::answers::answered;
 use crate::answers::expected;
 use crate::answers::same;

@@ -19,16 +19,22 @@ fn byte_at(bytes: &[u8], at: usize) -> u32
     0
 }
 
-// Word k, low byte first; 0 past the end.
+// The four bytes at a place among the first 2^32, low byte first; 0 past the end.
+pub(crate) fn dword(bytes: &[u8], at: u32) -> u32 {
+    let place = at as usize;
+    let a = byte_at(bytes, place);
+    let b = byte_at(bytes, place + 1);
+    let c = byte_at(bytes, place + 2);
+    let d = byte_at(bytes, place + 3);
+    a + 256 * b + 65536 * c + 16777216 * d
+}
+
+// Word k; 0 past the end.
 pub(crate) fn word(head: &[u8], k: usize) -> u32 {
     if k >= WORDS {
         return 0;
     }
-    let a = byte_at(head, 4 * k);
-    let b = byte_at(head, 4 * k + 1);
-    let c = byte_at(head, 4 * k + 2);
-    let d = byte_at(head, 4 * k + 3);
-    a + 256 * b + 65536 * c + 16777216 * d
+    dword(head, 4 * k as u32)
 }
 
 // One of the flags of word 5.

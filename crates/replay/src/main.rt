@@ -1,6 +1,7 @@
 // Replays a stored sample of the original encoder's answers, which comes on standard input
 // (bench/replay/README.md says how it was made and in which format), then runs document 01's examples that
 // are no M lines. Every file that is written is read back.
+mod agreed;
 mod answers;
 mod buffer;
 mod cases;

@@ -30,6 +30,15 @@ cast-write-head c =
     let head = sizes-head i (a .sizes) (k .planned .sizes-are) in
     record { fits = omega (arith, used-fits i (k .used), head, k .long) }
 
+cast-write-head-2 : tie.Need-cast-write-head-2
+cast-write-head-2 c =
+    let s = c .before .before .before .before in
+    let a = s .args in
+    let i = chosen (a .src) (a .options) (a .plane .now) (a .palette .now) [] in
+    let k = s .pre .0 in
+    let head = sizes-head i (a .sizes) (k .planned .sizes-are) in
+    record { fits = omega (arith, used-fits i (k .used), head, k .long) }
+
 write-head-requires : tie.Need-write-head-requires
 write-head-requires c κs =
     let s = c .before .before .before .before .before in
@@ -85,6 +94,7 @@ write-stream-spec =
     add-size
     compression-requires
     cast-write-head
+    cast-write-head-2
     write-head-requires
     add-rle-into
     rle-into-requires

@@ -1,0 +1,183 @@
+-- What document 02, A.2, changes of document 01's file: the four bytes of the image size, in RLE files and mask files alone.
+use mathlib.Core.Path.{_≡_, refl, sym, ap, _∙_}
+use mathlib.Core.Bool.{Bool, true, false, cond, false≢true}
+use mathlib.Core.List.{List, [], _++_}
+use Prim.Native.Nat.{ℕ, _+_, _<_}
+use native.Mathlib.Omega.{arith}
+use borrow.Author.Tests.{ne-eqb}
+use lib.Dec.{eqb}
+use lib.ListN.{length, length-append}
+use Rattle.leaves.specs.Bytes.{le16, le32}
+use Rattle.leaves.specs.Formats.{bitsPerPixel, isRgb565}
+use Rattle.leaves.specs.Masks.{hasAlphaMask}
+use Rattle.leaves.specs.Put.{put}
+use Rattle.format.specs.declared.layout.Mode.{Mode}
+use Rattle.format.specs.declared.layout.Mode.the-variants.{Masked, Calibrated, Profiled, Plain}
+use Rattle.format.specs.Accepted.{Accepted}
+use Rattle.format.specs.File.{modeIn, rawBytes, headBytes, tailOf, maxFile, streamUsed, storedRowsOf, pixels, compressionOf, imageSize, pelsPerMeter, headOf, fileSize, fileOf}
+use Rattle.format.specs.Headers.{fileHeader, infoHeader}
+use Rattle.format.specs.Input.{Input}
+use Rattle.format.specs.Layout.{isMasked, tailIn, headerSize, rowsCompression}
+use Rattle.format.specs.Readers.{wordAt, dwordAt, Fields, fieldsOf}
+use Rattle.format.proofs.FileSizes.{length-rows}
+use Rattle.format.proofs.HeadFields.{dword-bytes, length-head, length-file, fields-read}
+use Rattle.format.proofs.Modes.{given-mode, mask-mode, coded-cases, PlannedIn, used-in}
+
+-- document 01: "Image size is 0 in every 40-byte header and the raw bytes in the others"
+abbrev pub earlierSize : Input → ℕ
+earlierSize i = cond (eqb (headerSize (modeIn i) (i .source .format)) 40) 0 (rawBytes i)
+
+-- a call's file with this image size
+abbrev sized : ℕ → Input → ℕ → List ℕ
+sized limit i n = headOf i (compressionOf limit i) n pelsPerMeter pelsPerMeter (fileSize limit i) ++ pixels limit i ++ tailOf i
+
+-- document 01's file
+unfoldable pub earlierFile : ℕ → Input → List ℕ
+earlierFile limit i = sized limit i (earlierSize i)
+
+-- ---- four bytes of a file
+
+-- put at biSizeImage they are another image size, and nothing else
+put-image : (limit : ℕ) (i : Input) (n v : ℕ) → put (sized limit i n) 34 (le32 v) ≡ sized limit i v
+unfolding put headOf fileHeader infoHeader le16 le32
+put-image limit i n v = refl
+
+-- read there they are the image size
+image-at : (limit : ℕ) (i : Input) (n : ℕ) → n < 4294967296 → dwordAt (sized limit i n) 34 ≡ n
+unfolding dwordAt wordAt headOf fileHeader infoHeader le16 le32
+image-at limit i n h = dword-bytes n h
+
+-- document 01's file says where its pixels begin, and is as long as this one
+pub earlier-offset : (limit : ℕ) (i : Input) → headBytes i < 4294967296 → dwordAt (earlierFile limit i) 10 ≡ headBytes i
+unfolding earlierFile dwordAt wordAt headOf fileHeader infoHeader le16 le32
+earlier-offset limit i h = dword-bytes (headBytes i) h
+
+pub earlier-length : (limit : ℕ) (i : Input) → length (earlierFile limit i) ≡ fileSize limit i
+unfolding earlierFile fileSize
+earlier-length limit i = simp (length-append, length-head i (compressionOf limit i) (earlierSize i) pelsPerMeter pelsPerMeter (fileSize limit i)) (omega arith)
+
+-- ---- the image size of each file
+
+module _ (limit : ℕ) (i : Input) where
+  -- with a compression, the bytes of the pixels
+  pub compressed-size : 0 < compressionOf limit i → imageSize limit i ≡ length (pixels limit i)
+  unfolding imageSize
+  compressed-size h = rw (ne-eqb (compressionOf limit i) 0 (λ q. omega (arith, h, q)))
+
+  -- an RLE file has one
+  pub stream-compression : streamUsed limit i ≡ true → 0 < compressionOf limit i
+  unfolding compressionOf
+  stream-compression e = rw e (go (eqb (bitsPerPixel (i .source .format)) 8))
+    where
+      go : (b : Bool) → 0 < cond b 1 2
+      go true = omega arith
+      go false = omega arith
+
+  -- a mask file too
+  pub mask-compression : streamUsed limit i ≡ false → i .options .«has_bitfields» ≡ true → 0 < compressionOf limit i
+  unfolding compressionOf rowsCompression
+  mask-compression e m = rw (e, m) (go (hasAlphaMask (i .options .bitfields .masks)))
+    where
+      go : (b : Bool) → 0 < cond b 6 3
+      go true = omega arith
+      go false = omega arith
+
+  -- stored rows without masks have compression 3 or 0, by the source
+  rows-compression : streamUsed limit i ≡ false → i .options .«has_bitfields» ≡ false → compressionOf limit i ≡ cond (isRgb565 (i .source .format)) 3 0
+  unfolding compressionOf rowsCompression
+  rows-compression e m = rw (e, m)
+
+  rows-pixels : streamUsed limit i ≡ false → pixels limit i ≡ storedRowsOf i
+  unfolding pixels
+  rows-pixels e = rw e
+
+  -- and document 01's image size: compression 3 without masks stands in a long header
+  pub other-size : length (storedRowsOf i) ≡ rawBytes i → streamUsed limit i ≡ false → i .options .«has_bitfields» ≡ false → imageSize limit i ≡ earlierSize i
+  unfolding imageSize
+  other-size raw e m =
+      let long : length (pixels limit i) ≡ rawBytes i = ap length (rows-pixels e) ∙ raw in
+      (λ z. cond (eqb (rows-compression e m z) 0) (earlierSize i) (long z))
+      ∙ go (modeIn i) (isRgb565 (i .source .format)) refl (sym (given-mode (i .source) (i .options)) ∙ m)
+    where
+      go : (mode : Mode) (b : Bool) → isRgb565 (i .source .format) ≡ b → isMasked mode ≡ false
+          → cond (eqb (cond b 3 0) 0) (cond (eqb (headerSize mode (i .source .format)) 40) 0 (rawBytes i)) (rawBytes i)
+          ≡ cond (eqb (headerSize mode (i .source .format)) 40) 0 (rawBytes i)
+      go mode false q h = refl
+      go Masked true q h = absurd (false≢true (sym h))
+      go Calibrated true q h = refl
+      go Profiled true q h = refl
+      go Plain true q h = rw q
+
+-- ---- the theorem
+
+-- whatever the call, the file is document 01's with its image size filled in
+pub filled : (limit : ℕ) (i : Input) → fileOf limit i ≡ put (earlierFile limit i) 34 (le32 (imageSize limit i))
+unfolding fileOf earlierFile
+filled limit i = sym (put-image limit i (earlierSize i) (imageSize limit i))
+
+-- and where that is the same number, the same file
+pub same-size : (limit : ℕ) (i : Input) → imageSize limit i ≡ earlierSize i → fileOf limit i ≡ earlierFile limit i
+unfolding fileOf earlierFile
+same-size limit i e = ap (sized limit i) e
+
+-- a planned stream stands behind a 40-byte header
+pub planned-header : (i : Input) → PlannedIn i → headerSize (modeIn i) (i .source .format) ≡ 40
+planned-header i p =
+    ap (λ (m : Mode). headerSize m (i .source .format)) (p .mode) ∙ coded-cases (λ f. headerSize Plain f ≡ 40) refl refl (i .source .format) (p .source)
+
+-- only a header of 124 bytes has a profile
+pub short-header-tail : (i : Input) → headerSize (modeIn i) (i .source .format) ≡ 40 → tailOf i ≡ []
+unfolding tailIn
+short-header-tail i h = go (modeIn i) refl
+  where
+    go : (mode : Mode) → modeIn i ≡ mode → tailIn mode (i .source .«has_linked_icc») (i .icc) (i .linked) ≡ []
+    go Masked e = refl
+    go Calibrated e = refl
+    go Profiled e = absurd (omega (arith, h, ap (λ (m : Mode). headerSize m (i .source .format)) e))
+    go Plain e = refl
+
+-- A.2, of an accepted call
+pub record FilledIn (i : Input) : Type 0 where
+  -- no other byte changes
+  pub alone : fileOf maxFile i ≡ put (earlierFile maxFile i) 34 (le32 (imageSize maxFile i))
+  -- nor these with compression 0 or in a longer header
+  pub uncompressed : compressionOf maxFile i ≡ 0 → fileOf maxFile i ≡ earlierFile maxFile i
+  pub long-header : 40 < headerSize (modeIn i) (i .source .format) → fileOf maxFile i ≡ earlierFile maxFile i
+  -- every compressed file holds the bytes of its pixels, which end the file where the header has 40 bytes
+  pub compressed : 0 < compressionOf maxFile i → dwordAt (fileOf maxFile i) 34 ≡ length (pixels maxFile i)
+  pub to-the-end : 0 < compressionOf maxFile i → headerSize (modeIn i) (i .source .format) ≡ 40
+      → dwordAt (fileOf maxFile i) 10 + dwordAt (fileOf maxFile i) 34 ≡ length (fileOf maxFile i)
+
+module _ (i : Input) (a : Accepted i) where
+  zero-size : compressionOf maxFile i ≡ 0 → imageSize maxFile i ≡ earlierSize i
+  unfolding imageSize
+  zero-size e = rw e
+
+  long-size : 40 < headerSize (modeIn i) (i .source .format) → imageSize maxFile i ≡ earlierSize i
+  long-size h = go (streamUsed maxFile i) (i .options .«has_bitfields») refl refl
+    where
+      go : (u m : Bool) → streamUsed maxFile i ≡ u → i .options .«has_bitfields» ≡ m → imageSize maxFile i ≡ earlierSize i
+      go true m e q = absurd (omega (arith, h, planned-header i (used-in maxFile i e .planned)))
+      go false true e q = absurd (omega (arith, h, ap (λ (mode : Mode). headerSize mode (i .source .format)) (mask-mode i q)))
+      go false false e q = other-size maxFile i (length-rows i (a .masks) (a .samples)) e q
+
+  field-is : 0 < compressionOf maxFile i → dwordAt (fileOf maxFile i) 34 ≡ length (pixels maxFile i)
+  unfolding fileOf fileSize
+  field-is h = let n = compressed-size maxFile i h in image-at maxFile i (imageSize maxFile i) (omega (arith, n, a .fits)) ∙ n
+
+  ends-file : 0 < compressionOf maxFile i → headerSize (modeIn i) (i .source .format) ≡ 40
+      → dwordAt (fileOf maxFile i) 10 + dwordAt (fileOf maxFile i) 34 ≡ length (fileOf maxFile i)
+  unfolding fieldsOf fileSize
+  ends-file h k =
+      let offset : dwordAt (fileOf maxFile i) 10 ≡ headBytes i = ap (λ (t : Fields). t .offset) (fields-read i a) in
+      omega (arith, offset, field-is h, length-file i, ap length (short-header-tail i k))
+
+  pub filled-in : FilledIn i
+  filled-in =
+      record {
+        alone = filled maxFile i;
+        uncompressed = λ e. same-size maxFile i (zero-size e);
+        long-header = λ h. same-size maxFile i (long-size h);
+        compressed = field-is;
+        to-the-end = ends-file;
+      }
