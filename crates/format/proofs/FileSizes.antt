@@ -114,6 +114,11 @@ length-rows i a s =
     ∙ ap (λ (d : ℕ). i .source .height * rowStride (i .source .width) d) (k .1)
     ∙ mul-comm (i .source .height) (rowStride (i .source .width) (depthIn i))
 
+-- without a stream they are the pixels
+pub rows-pixels : (limit : ℕ) (i : Input) → streamUsed limit i ≡ false → pixels limit i ≡ storedRowsOf i
+unfolding pixels
+rows-pixels limit i e = rw e
+
 -- a stream under the budget keeps the file in the limit
 coded-fits : (limit : ℕ) (i : Input) → streamUsed limit i ≡ true → headBytes i + length (streamOf i) + length (tailOf i) ≤ limit
 unfolding budget

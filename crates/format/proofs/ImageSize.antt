@@ -6,11 +6,13 @@ use Prim.Native.Nat.{ℕ, _+_, _<_}
 use native.Mathlib.Omega.{arith}
 use borrow.Author.Tests.{ne-eqb}
 use lib.Dec.{eqb}
-use lib.ListN.{length, length-append}
+use lib.ListN.{length, getD, length-append}
+use Rattle.leaves.specs.declared.error.Check.the-variants.{Passed}
 use Rattle.leaves.specs.Bytes.{le16, le32}
 use Rattle.leaves.specs.Formats.{bitsPerPixel, isRgb565}
 use Rattle.leaves.specs.Masks.{hasAlphaMask}
 use Rattle.leaves.specs.Put.{put}
+use Rattle.leaves.specs.Refusals.{firstOf}
 use Rattle.format.specs.declared.layout.Mode.{Mode}
 use Rattle.format.specs.declared.layout.Mode.the-variants.{Masked, Calibrated, Profiled, Plain}
 use Rattle.format.specs.Accepted.{Accepted}
@@ -19,7 +21,9 @@ use Rattle.format.specs.Headers.{fileHeader, infoHeader}
 use Rattle.format.specs.Input.{Input}
 use Rattle.format.specs.Layout.{isMasked, tailIn, headerSize, rowsCompression}
 use Rattle.format.specs.Readers.{wordAt, dwordAt, Fields, fieldsOf}
-use Rattle.format.proofs.FileSizes.{length-rows}
+use Rattle.format.specs.Refusals.{writeRows}
+use Rattle.format.proofs.Acceptance.{accepted}
+use Rattle.format.proofs.FileSizes.{length-rows, rows-pixels}
 use Rattle.format.proofs.HeadFields.{dword-bytes, length-head, length-file, fields-read}
 use Rattle.format.proofs.Modes.{given-mode, mask-mode, coded-cases, PlannedIn, used-in}
 
@@ -87,15 +91,11 @@ module _ (limit : ℕ) (i : Input) where
   unfolding compressionOf rowsCompression
   rows-compression e m = rw (e, m)
 
-  rows-pixels : streamUsed limit i ≡ false → pixels limit i ≡ storedRowsOf i
-  unfolding pixels
-  rows-pixels e = rw e
-
   -- and document 01's image size: compression 3 without masks stands in a long header
   pub other-size : length (storedRowsOf i) ≡ rawBytes i → streamUsed limit i ≡ false → i .options .«has_bitfields» ≡ false → imageSize limit i ≡ earlierSize i
   unfolding imageSize
   other-size raw e m =
-      let long : length (pixels limit i) ≡ rawBytes i = ap length (rows-pixels e) ∙ raw in
+      let long : length (pixels limit i) ≡ rawBytes i = ap length (rows-pixels limit i e) ∙ raw in
       (λ z. cond (eqb (rows-compression e m z) 0) (earlierSize i) (long z))
       ∙ go (modeIn i) (isRgb565 (i .source .format)) refl (sym (given-mode (i .source) (i .options)) ∙ m)
     where
@@ -181,3 +181,9 @@ module _ (i : Input) (a : Accepted i) where
         compressed = field-is;
         to-the-end = ends-file;
       }
+
+-- so of a call that no row of the table refuses
+pub filled-of-table : (i : Input) (room offset : ℕ) → ((k : ℕ) → getD (i .plane) k 0 < 256) → ((k : ℕ) → getD (i .palette) k 0 < 256)
+    → length (i .options .«calibrated_rgb» .endpoints) ≡ 9 → length (i .options .«calibrated_rgb» .gamma) ≡ 3 → firstOf (writeRows maxFile i room offset) ≡ Passed
+    → FilledIn i
+filled-of-table i room offset plane palette nine three e = filled-in i (accepted i room offset plane palette nine three e)

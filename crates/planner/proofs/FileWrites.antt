@@ -29,7 +29,7 @@ use Rattle.format.specs.Input.{Input}
 use Rattle.format.specs.Layout.{headerSize, headRest, headLen, rawLen, rowsCompression, rowsFormat, codingAt, isStream, coded, codingOf, layoutOf}
 use Rattle.format.proofs.Acceptance.{Checked, rows-long, plan-passed}
 use Rattle.format.proofs.ImageSize.{compressed-size, stream-compression}
-use Rattle.format.proofs.FileSizes.{pack-ok}
+use Rattle.format.proofs.FileSizes.{pack-ok, rows-pixels}
 use Rattle.format.proofs.HeadFields.{length-head}
 use Rattle.format.proofs.HeadTable.{entries-small}
 use Rattle.format.proofs.Modes.{coded-cases, PlannedIn, planned-in, used-in, tail-empty, no-tail}
@@ -141,16 +141,16 @@ module _ (i : Input) (l : Layout) (rle : Rle) (el : l ≡ layoutIn i) (ec : l .c
       go : (n : ℕ) → n ≡ 1 → i .source .width * n ≤ i .source .stride → i .source .width ≤ i .source .stride
       go n e k = omega (arith, ap (λ (x : ℕ). i .source .width * x) e)
 
--- a used stream's size has 32 bits
-pub used-fits : (i : Input) → streamUsed maxFile i ≡ true → headBytes i + length (streamOf i) ≤ maxFile
-unfolding budget
-used-fits i u =
-    let under : length (streamOf i) < min (rawBytes i) (maxFile + 1 - headBytes i) = used-in maxFile i u .under in
-    omega arith
-
 module _ (i : Input) (l : Layout) (sizes : Sizes) (rle : Rle) (len : ℕ) (k : Streamed i l sizes rle len) where
   stream-plan : PlannedIn i
   stream-plan = used-in maxFile i (k .used) .planned
+
+  -- its file's size has 32 bits
+  pub stream-small : sizes .head + len ≤ maxFile
+  unfolding budget
+  stream-small =
+      let under : length (streamOf i) < min (rawBytes i) (maxFile + 1 - headBytes i) = used-in maxFile i (k .used) .under in
+      omega (arith, sizes-head i sizes (k .planned .sizes-are), k .long)
 
   stream-pixels : pixels maxFile i ≡ streamOf i
   unfolding pixels
@@ -226,13 +226,9 @@ module _ (i : Input) (l : Layout) (sizes : Sizes) (p : Planned i l sizes) where
       )
 
   module _ (u : streamUsed maxFile i ≡ false) where
-    rows-pixels : pixels maxFile i ≡ storedRowsOf i
-    unfolding pixels
-    rows-pixels = ap (λ (b : Bool). cond b (streamOf i) (storedRowsOf i)) u
-
     rows-size : sizes .file ≡ fileSize maxFile i
     unfolding plainSize fileSize
-    rows-size = sizes-file i sizes (p .sizes-are) ∙ omega (arith, ap length rows-pixels, rows-long i rows-checked)
+    rows-size = sizes-file i sizes (p .sizes-are) ∙ omega (arith, ap length (rows-pixels maxFile i u), rows-long i rows-checked)
 
     -- the answer
     pub rows-answer : encoded.File (l .format) (sizes .file) ≡ encoded.File (formatOf maxFile i) (fileSize maxFile i)
@@ -253,7 +249,7 @@ module _ (i : Input) (l : Layout) (sizes : Sizes) (p : Planned i l sizes) where
         let er = sizes-raw i sizes (p .sizes-are) in
         let c : l .compression ≡ compressionOf maxFile i = ap (λ (x : Layout). x .compression) (p .layout-is)
         ∙ sym (ap (λ (b : Bool). cond b (cond (eqb (bitsPerPixel (i .source .format)) 8) 1 2) (rowsCompression (i .source) (i .options))) u) in
-        let stored : sizes .raw ≡ length (pixels maxFile i) = er ∙ sym (ap length rows-pixels ∙ rows-long i rows-checked) in
+        let stored : sizes .raw ≡ length (pixels maxFile i) = er ∙ sym (ap length (rows-pixels maxFile i u) ∙ rows-long i rows-checked) in
         let m : image ≡ imageSize maxFile i = ei ∙ (λ z. cond (eqb (c z) 0) (cond (eqb (p .layout-is z .«header_size») 40) 0 (er z)) (stored z)) in
         let top = headOf i (compressionOf maxFile i) (imageSize maxFile i) pelsPerMeter pelsPerMeter (fileSize maxFile i) in
         let h : headBy l (i .source) (i .options) (i .palette) (sizes .head) (l .compression) image (sizes .file) (length profile) (sizes .head - 14 + sizes .raw) ≡ top
@@ -266,4 +262,4 @@ module _ (i : Input) (l : Layout) (sizes : Sizes) (p : Planned i l sizes) where
         let two = put-next d b1 b2 top (storedRowsOf i) at (sizes .head) (at + sizes .head) long refl (omega arith) (e1 ∙ ap (put d at) h) (e2 ∙ ap (put b1 (at + sizes .head)) rows) in
         put-next d b2 b3 (top ++ storedRowsOf i) (tailOf i) at (sizes .head + sizes .raw) (at + sizes .head + sizes .raw) all (omega arith) (omega arith) two
         (e3 ∙ ap (put b2 (at + sizes .head + sizes .raw)) et)
-        ∙ ap (put d at) (sym (ap (λ (x : List ℕ). top ++ x ++ tailOf i) rows-pixels))
+        ∙ ap (put d at) (sym (ap (λ (x : List ℕ). top ++ x ++ tailOf i) (rows-pixels maxFile i u)))

@@ -4,7 +4,7 @@ use mathlib.Core.List.{[]}
 use lib.ListN.{length}
 use Rattle.format.proofs.Acceptance.{plan-passed}
 use Rattle.planner.specs.Calls.{chosen}
-use Rattle.planner.proofs.FileWrites.{sizes-head, head-asked, used-fits, stream-coded, stream-inside, stream-answer, stream-written}
+use Rattle.planner.proofs.FileWrites.{sizes-head, head-asked, stream-small, stream-coded, stream-inside, stream-answer, stream-written}
 use borrow.Author.Needs.{needs}
 use Rattle.planner.proofs.encoder.write_stream.Statement.{statement}
 use Rattle.planner.proofs.encoder.write_stream.Tie as tie
@@ -13,10 +13,7 @@ add-size : tie.Need-add-size
 add-size c =
     let s = c .before .before .before in
     let a = s .args in
-    let i = chosen (a .src) (a .options) (a .plane .now) (a .palette .now) [] in
-    let k = s .pre .0 in
-    let head = sizes-head i (a .sizes) (k .planned .sizes-are) in
-    record { fits = omega (arith, used-fits i (k .used), head, k .long) }
+    record { fits = omega (arith, stream-small (chosen (a .src) (a .options) (a .plane .now) (a .palette .now) []) (a .layout) (a .sizes) (a .rle) (a .len) (s .pre .0)) }
 
 compression-requires : tie.Need-compression-requires
 compression-requires c κs = search needs
@@ -25,19 +22,13 @@ cast-write-head : tie.Need-cast-write-head
 cast-write-head c =
     let s = c .before .before .before .before in
     let a = s .args in
-    let i = chosen (a .src) (a .options) (a .plane .now) (a .palette .now) [] in
-    let k = s .pre .0 in
-    let head = sizes-head i (a .sizes) (k .planned .sizes-are) in
-    record { fits = omega (arith, used-fits i (k .used), head, k .long) }
+    record { fits = omega (arith, stream-small (chosen (a .src) (a .options) (a .plane .now) (a .palette .now) []) (a .layout) (a .sizes) (a .rle) (a .len) (s .pre .0)) }
 
 cast-write-head-2 : tie.Need-cast-write-head-2
 cast-write-head-2 c =
     let s = c .before .before .before .before in
     let a = s .args in
-    let i = chosen (a .src) (a .options) (a .plane .now) (a .palette .now) [] in
-    let k = s .pre .0 in
-    let head = sizes-head i (a .sizes) (k .planned .sizes-are) in
-    record { fits = omega (arith, used-fits i (k .used), head, k .long) }
+    record { fits = omega (arith, stream-small (chosen (a .src) (a .options) (a .plane .now) (a .palette .now) []) (a .layout) (a .sizes) (a .rle) (a .len) (s .pre .0)) }
 
 write-head-requires : tie.Need-write-head-requires
 write-head-requires c κs =
@@ -47,7 +38,7 @@ write-head-requires c κs =
     let k = s .pre .0 in
     let head = sizes-head i (a .sizes) (k .planned .sizes-are) in
     let asked = head-asked i (a .layout) (a .sizes .head) (k .planned .layout-is) head in
-    (plan-passed i (k .planned .passed) .0 .some-height, (asked .0, (omega (arith, used-fits i (k .used), head), (asked .1, omega (arith, s .pre .1)))))
+    (plan-passed i (k .planned .passed) .0 .some-height, (asked .0, (omega (arith, stream-small i (a .layout) (a .sizes) (a .rle) (a .len) k), (asked .1, omega (arith, s .pre .1)))))
 
 add-rle-into : tie.Need-add-rle-into
 add-rle-into c = let s = c .before .before .before .before .before .before .before .before .before in record { fits = omega (arith, s .pre .1, s .good .1 .1 .1 .1 .1 .1 .1 .1 .0) }
