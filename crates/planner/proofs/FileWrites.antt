@@ -28,10 +28,10 @@ use Rattle.format.specs.File.{modeIn, depthIn, packIn, rlePlanned, rawBytes, en
 use Rattle.format.specs.Input.{Input}
 use Rattle.format.specs.Layout.{headerSize, headRest, headLen, rawLen, rowsCompression, rowsFormat, codingAt, isStream, coded, codingOf, layoutOf}
 use Rattle.format.proofs.Acceptance.{Checked, rows-long, plan-passed}
-use Rattle.format.proofs.ImageSize.{compressed-size, stream-compression}
 use Rattle.format.proofs.FileSizes.{pack-ok, rows-pixels}
 use Rattle.format.proofs.HeadFields.{length-head}
 use Rattle.format.proofs.HeadTable.{entries-small}
+use Rattle.format.proofs.ImageSize.{compressed-size, stream-compression}
 use Rattle.format.proofs.Modes.{coded-cases, PlannedIn, planned-in, used-in, tail-empty, no-tail}
 use Rattle.format.proofs.PlainBody.{pack-bytes}
 use Rattle.planner.specs.declared.encoder.Encoded.the-variants as encoded

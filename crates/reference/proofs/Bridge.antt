@@ -111,8 +111,8 @@ module _ (i : Input) (ok : Typed i) (k : Checked i) where
           rw (e, tail-empty i (used-in limit i e .planned), n) (sym (append-nil _))
       go false e = rw (e, rows-same, rows-long i k)
 
-  -- an RLE file or a mask file: its length less its pixel offset is the image size
   module _ (limit : ℕ) where
+    -- an RLE file or a mask file: its length less its pixel offset is the image size
     filled-in : 0 < compressionOf limit i → headerSize (modeIn i) (i .source .format) ≡ 40 → withImageSize (earlierFile limit i) ≡ fileOf limit i
     unfolding withImageSize fileSize
     filled-in c h =
