@@ -186,10 +186,18 @@ pixels-at i =
     (drop-at (headOf i (compressionOf maxFile i) (imageSize maxFile i) pelsPerMeter pelsPerMeter (fileSize maxFile i)) (pixels maxFile i ++ tailOf i) (headBytes i)
     (length-head i (compressionOf maxFile i) (imageSize maxFile i) pelsPerMeter pelsPerMeter (fileSize maxFile i)))
 
--- the file is as long as its size says
+-- a call's file with this image size
+abbrev pub fileWith : ℕ → Input → ℕ → List ℕ
+fileWith limit i n = headOf i (compressionOf limit i) n pelsPerMeter pelsPerMeter (fileSize limit i) ++ pixels limit i ++ tailOf i
+
+-- is as long as its size says
+pub length-with : (limit : ℕ) (i : Input) (n : ℕ) → length (fileWith limit i n) ≡ fileSize limit i
+unfolding fileSize
+length-with limit i n = simp (length-append, length-head i (compressionOf limit i) n pelsPerMeter pelsPerMeter (fileSize limit i)) (omega arith)
+
 pub length-file : (i : Input) → length (fileOf maxFile i) ≡ fileSize maxFile i
-unfolding fileOf fileSize
-length-file i = simp (length-append, length-head i (compressionOf maxFile i) (imageSize maxFile i) pelsPerMeter pelsPerMeter (fileSize maxFile i)) (omega arith)
+unfolding fileOf
+length-file i = length-with maxFile i (imageSize maxFile i)
 
 -- ---- the file's fields
 

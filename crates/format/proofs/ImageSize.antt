@@ -1,13 +1,14 @@
 -- What document 02, A.2, changes of document 01's file: the four bytes of the image size, in RLE files and mask files alone.
 use mathlib.Core.Path.{_≡_, refl, sym, ap, _∙_}
 use mathlib.Core.Bool.{Bool, true, false, cond, false≢true}
-use mathlib.Core.List.{List, [], _++_}
-use Prim.Native.Nat.{ℕ, _+_, _<_}
+use mathlib.Core.List.{List}
+use Prim.Native.Nat.{ℕ, _+_, _-_, _<_}
 use native.Mathlib.Omega.{arith}
 use borrow.Author.Tests.{ne-eqb}
 use lib.Dec.{eqb}
-use lib.ListN.{length, getD, length-append}
+use lib.ListN.{length, getD}
 use Rattle.leaves.specs.declared.error.Check.the-variants.{Passed}
+use Rattle.leaves.specs.declared.image.BmpPixelFormat.{BmpPixelFormat}
 use Rattle.leaves.specs.Bytes.{le16, le32}
 use Rattle.leaves.specs.Formats.{bitsPerPixel, isRgb565}
 use Rattle.leaves.specs.Masks.{hasAlphaMask}
@@ -16,49 +17,41 @@ use Rattle.leaves.specs.Refusals.{firstOf}
 use Rattle.format.specs.declared.layout.Mode.{Mode}
 use Rattle.format.specs.declared.layout.Mode.the-variants.{Masked, Calibrated, Profiled, Plain}
 use Rattle.format.specs.Accepted.{Accepted}
-use Rattle.format.specs.File.{modeIn, rawBytes, headBytes, tailOf, maxFile, streamUsed, storedRowsOf, pixels, compressionOf, imageSize, pelsPerMeter, headOf, fileSize, fileOf}
+use Rattle.format.specs.File.{modeIn, rawBytes, headBytes, maxFile, streamUsed, storedRowsOf, pixels, compressionOf, imageSize, headOf, fileSize, fileOf}
 use Rattle.format.specs.Headers.{fileHeader, infoHeader}
 use Rattle.format.specs.Input.{Input}
-use Rattle.format.specs.Layout.{isMasked, tailIn, headerSize, rowsCompression}
-use Rattle.format.specs.Readers.{wordAt, dwordAt, Fields, fieldsOf}
+use Rattle.format.specs.Layout.{isMasked, isProfiled, headerSize, rowsCompression}
+use Rattle.format.specs.Readers.{wordAt, dwordAt}
 use Rattle.format.specs.Refusals.{writeRows}
 use Rattle.format.proofs.Acceptance.{accepted}
 use Rattle.format.proofs.FileSizes.{length-rows, rows-pixels}
-use Rattle.format.proofs.HeadFields.{dword-bytes, length-head, length-file, fields-read}
-use Rattle.format.proofs.Modes.{given-mode, mask-mode, coded-cases, PlannedIn, used-in}
+use Rattle.format.proofs.HeadFields.{dword-bytes, fileWith, length-with, length-file}
+use Rattle.format.proofs.Modes.{given-mode, mask-mode, coded-cases, PlannedIn, unprofiled-tail, used-in}
 
 -- document 01: "Image size is 0 in every 40-byte header and the raw bytes in the others"
 abbrev pub earlierSize : Input → ℕ
 earlierSize i = cond (eqb (headerSize (modeIn i) (i .source .format)) 40) 0 (rawBytes i)
 
--- a call's file with this image size
-abbrev sized : ℕ → Input → ℕ → List ℕ
-sized limit i n = headOf i (compressionOf limit i) n pelsPerMeter pelsPerMeter (fileSize limit i) ++ pixels limit i ++ tailOf i
-
 -- document 01's file
 unfoldable pub earlierFile : ℕ → Input → List ℕ
-earlierFile limit i = sized limit i (earlierSize i)
+earlierFile limit i = fileWith limit i (earlierSize i)
 
--- ---- four bytes of a file
+-- ---- fields of a file
 
--- put at biSizeImage they are another image size, and nothing else
-put-image : (limit : ℕ) (i : Input) (n v : ℕ) → put (sized limit i n) 34 (le32 v) ≡ sized limit i v
+-- four bytes put at biSizeImage are another image size, and nothing else
+put-image : (limit : ℕ) (i : Input) (n v : ℕ) → put (fileWith limit i n) 34 (le32 v) ≡ fileWith limit i v
 unfolding put headOf fileHeader infoHeader le16 le32
 put-image limit i n v = refl
 
 -- read there they are the image size
-image-at : (limit : ℕ) (i : Input) (n : ℕ) → n < 4294967296 → dwordAt (sized limit i n) 34 ≡ n
+image-at : (limit : ℕ) (i : Input) (n : ℕ) → n < 4294967296 → dwordAt (fileWith limit i n) 34 ≡ n
 unfolding dwordAt wordAt headOf fileHeader infoHeader le16 le32
 image-at limit i n h = dword-bytes n h
 
--- document 01's file says where its pixels begin, and is as long as this one
-pub earlier-offset : (limit : ℕ) (i : Input) → headBytes i < 4294967296 → dwordAt (earlierFile limit i) 10 ≡ headBytes i
-unfolding earlierFile dwordAt wordAt headOf fileHeader infoHeader le16 le32
-earlier-offset limit i h = dword-bytes (headBytes i) h
-
-pub earlier-length : (limit : ℕ) (i : Input) → length (earlierFile limit i) ≡ fileSize limit i
-unfolding earlierFile fileSize
-earlier-length limit i = simp (length-append, length-head i (compressionOf limit i) (earlierSize i) pelsPerMeter pelsPerMeter (fileSize limit i)) (omega arith)
+-- bfOffBits is where the pixels begin
+offset-at : (limit : ℕ) (i : Input) (n : ℕ) → headBytes i < 4294967296 → dwordAt (fileWith limit i n) 10 ≡ headBytes i
+unfolding dwordAt wordAt headOf fileHeader infoHeader le16 le32
+offset-at limit i n h = dword-bytes (headBytes i) h
 
 -- ---- the image size of each file
 
@@ -108,6 +101,30 @@ module _ (limit : ℕ) (i : Input) where
       go Profiled true q h = refl
       go Plain true q h = rw q
 
+-- ---- behind a 40-byte header
+
+-- a planned stream stands there
+pub planned-header : (i : Input) → PlannedIn i → headerSize (modeIn i) (i .source .format) ≡ 40
+planned-header i p =
+    ap (λ (m : Mode). headerSize m (i .source .format)) (p .mode) ∙ coded-cases (λ f. headerSize Plain f ≡ 40) refl refl (i .source .format) (p .source)
+
+-- and no profile
+short-header : (mode : Mode) (f : BmpPixelFormat) → headerSize mode f ≡ 40 → isProfiled mode ≡ false
+short-header Masked f h = refl
+short-header Calibrated f h = refl
+short-header Profiled f h = absurd (omega (arith, h))
+short-header Plain f h = refl
+
+module _ (limit : ℕ) (i : Input) (c : 0 < compressionOf limit i) (h : headerSize (modeIn i) (i .source .format) ≡ 40) where
+  -- so the pixels of an RLE file or a mask file end it
+  ends-with-pixels : fileSize limit i ≡ headBytes i + imageSize limit i
+  unfolding fileSize
+  ends-with-pixels = omega (arith, compressed-size limit i c, ap length (unprofiled-tail i (short-header (modeIn i) (i .source .format) h)))
+
+  -- and its length less its pixel offset is the image size, whatever stands in the field
+  pub found-size : headBytes i < 4294967296 → (n : ℕ) → length (fileWith limit i n) - dwordAt (fileWith limit i n) 10 ≡ imageSize limit i
+  found-size small n = omega (arith, length-with limit i n, offset-at limit i n small, ends-with-pixels)
+
 -- ---- the theorem
 
 -- whatever the call, the file is document 01's with its image size filled in
@@ -118,23 +135,7 @@ filled limit i = sym (put-image limit i (earlierSize i) (imageSize limit i))
 -- and where that is the same number, the same file
 pub same-size : (limit : ℕ) (i : Input) → imageSize limit i ≡ earlierSize i → fileOf limit i ≡ earlierFile limit i
 unfolding fileOf earlierFile
-same-size limit i e = ap (sized limit i) e
-
--- a planned stream stands behind a 40-byte header
-pub planned-header : (i : Input) → PlannedIn i → headerSize (modeIn i) (i .source .format) ≡ 40
-planned-header i p =
-    ap (λ (m : Mode). headerSize m (i .source .format)) (p .mode) ∙ coded-cases (λ f. headerSize Plain f ≡ 40) refl refl (i .source .format) (p .source)
-
--- only a header of 124 bytes has a profile
-pub short-header-tail : (i : Input) → headerSize (modeIn i) (i .source .format) ≡ 40 → tailOf i ≡ []
-unfolding tailIn
-short-header-tail i h = go (modeIn i) refl
-  where
-    go : (mode : Mode) → modeIn i ≡ mode → tailIn mode (i .source .«has_linked_icc») (i .icc) (i .linked) ≡ []
-    go Masked e = refl
-    go Calibrated e = refl
-    go Profiled e = absurd (omega (arith, h, ap (λ (m : Mode). headerSize m (i .source .format)) e))
-    go Plain e = refl
+same-size limit i e = ap (fileWith limit i) e
 
 -- A.2, of an accepted call
 pub record FilledIn (i : Input) : Type 0 where
@@ -161,16 +162,16 @@ module _ (i : Input) (a : Accepted i) where
       go false true e q = absurd (omega (arith, h, ap (λ (mode : Mode). headerSize mode (i .source .format)) (mask-mode i q)))
       go false false e q = other-size maxFile i (length-rows i (a .masks) (a .samples)) e q
 
-  field-is : 0 < compressionOf maxFile i → dwordAt (fileOf maxFile i) 34 ≡ length (pixels maxFile i)
+  field-is : 0 < compressionOf maxFile i → dwordAt (fileOf maxFile i) 34 ≡ imageSize maxFile i
   unfolding fileOf fileSize
-  field-is h = let n = compressed-size maxFile i h in image-at maxFile i (imageSize maxFile i) (omega (arith, n, a .fits)) ∙ n
+  field-is c = image-at maxFile i (imageSize maxFile i) (omega (arith, compressed-size maxFile i c, a .fits))
 
   ends-file : 0 < compressionOf maxFile i → headerSize (modeIn i) (i .source .format) ≡ 40
       → dwordAt (fileOf maxFile i) 10 + dwordAt (fileOf maxFile i) 34 ≡ length (fileOf maxFile i)
-  unfolding fieldsOf fileSize
-  ends-file h k =
-      let offset : dwordAt (fileOf maxFile i) 10 ≡ headBytes i = ap (λ (t : Fields). t .offset) (fields-read i a) in
-      omega (arith, offset, field-is h, length-file i, ap length (short-header-tail i k))
+  unfolding fileOf
+  ends-file c h =
+      let ends = ends-with-pixels maxFile i c h in
+      omega (arith, offset-at maxFile i (imageSize maxFile i) (omega (arith, ends, a .fits)), field-is c, length-file i, ends)
 
   pub filled-in : FilledIn i
   filled-in =
@@ -178,7 +179,7 @@ module _ (i : Input) (a : Accepted i) where
         alone = filled maxFile i;
         uncompressed = λ e. same-size maxFile i (zero-size e);
         long-header = λ h. same-size maxFile i (long-size h);
-        compressed = field-is;
+        compressed = λ c. field-is c ∙ compressed-size maxFile i c;
         to-the-end = ends-file;
       }
 

@@ -1,5 +1,5 @@
 -- Which mode a call has.
-use mathlib.Core.Path.{_≡_, refl, sym, ap, _∙_}
+use mathlib.Core.Path.{_≡_, refl, ap, _∙_}
 use mathlib.Core.Bool.{Bool, true, false, not, cond, false≢true, _&&_}
 use mathlib.Core.List.{[]}
 use Prim.Native.Nat.{ℕ, _<_}
@@ -12,7 +12,7 @@ use Rattle.leaves.specs.declared.image.BmpPixelFormat.{BmpPixelFormat}
 use Rattle.leaves.specs.declared.image.BmpPixelFormat.the-variants.{Rgba, Rgb24, Bgra, Bgr24, Rgb555, Rgb565, Pal8, Indexed4, Indexed2, Indexed1}
 use Rattle.leaves.specs.Refusals.{profileMode}
 use Rattle.format.specs.File.{modeIn, rlePlanned, tailOf, streamOf, budget, streamUsed}
-use Rattle.format.specs.Layout.{modeOf, isMasked, isPlain, tailIn, coded, wantsRle}
+use Rattle.format.specs.Layout.{modeOf, isMasked, isProfiled, isPlain, tailIn, coded, wantsRle}
 use Rattle.format.specs.declared.layout.Mode.{Mode}
 use Rattle.format.specs.declared.layout.Mode.the-variants.{Masked, Calibrated, Profiled, Plain}
 use Rattle.format.specs.Input.{Input}
@@ -83,10 +83,14 @@ planned-in i e =
     parts true false c d h = absurd (false≢true h)
     parts false b c d h = absurd (false≢true h)
 
--- a plain file has no profile
-pub tail-empty : (i : Input) → PlannedIn i → tailOf i ≡ []
+-- only in profile mode is there a profile behind the pixels
+pub unprofiled-tail : (i : Input) → isProfiled (modeIn i) ≡ false → tailOf i ≡ []
 unfolding tailIn
-tail-empty i p = ap (λ (m : Mode). tailIn m (i .source .«has_linked_icc») (i .icc) (i .linked)) (p .mode)
+unprofiled-tail i e = ap (λ (b : Bool). cond b (cond (i .source .«has_linked_icc») (i .linked) (i .icc)) []) e
+
+-- so there is none behind a stream
+pub tail-empty : (i : Input) → PlannedIn i → tailOf i ≡ []
+tail-empty i p = unprofiled-tail i (ap isProfiled (p .mode))
 
 -- it has no bytes
 pub no-tail : (i : Input) → PlannedIn i → length (tailOf i) ≡ 0

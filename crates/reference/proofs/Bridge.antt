@@ -2,7 +2,7 @@
 use mathlib.Core.Path.{_≡_, refl, sym, ap, _∙_}
 use mathlib.Core.Bool.{Bool, true, false, cond}
 use mathlib.Core.List.{List, append-nil}
-use Prim.Native.Nat.{ℕ, _+_, _-_, _*_, _%_, _^_, _≤_, _<_}
+use Prim.Native.Nat.{ℕ, _+_, _*_, _%_, _^_, _≤_, _<_}
 use native.Mathlib.Omega.{arith}
 use borrow.Author.Tests.{ltb-false}
 use lib.Dec.{ltb, eqb}
@@ -24,13 +24,12 @@ use Rattle.rows.specs.declared.pack.RowPack.the-variants.{Bgra32, Bgr24, Words1
 use Rattle.rows.specs.StoredRows.{padded, redIn, greenIn, blueIn, alphaIn, field, maskWord, maskCell, storedRow, storedRows, LayoutOk, PackOk}
 use Rattle.rows.proofs.MaskCells.{field-none, field-some}
 use Rattle.format.specs.declared.layout.Mode.{Mode}
-use Rattle.format.specs.File.{modeIn, packIn, headBytes, streamOf, streamUsed, storedRowsOf, pixels, compressionOf, imageSize, fileSize, fileOf, plainSize, formatOf}
+use Rattle.format.specs.File.{modeIn, packIn, headBytes, streamOf, streamUsed, storedRowsOf, pixels, compressionOf, fileSize, fileOf, plainSize, formatOf}
 use Rattle.format.specs.Input.{Input}
 use Rattle.format.specs.Layout.{headerSize, maskFormat, rowsFormat}
-use Rattle.format.specs.Readers.{dwordAt}
 use Rattle.format.proofs.Acceptance.{Checked, rows-long}
 use Rattle.format.proofs.FileSizes.{pack-ok}
-use Rattle.format.proofs.ImageSize.{earlierFile, earlier-offset, earlier-length, compressed-size, stream-compression, mask-compression, other-size, filled, same-size, planned-header, short-header-tail}
+use Rattle.format.proofs.ImageSize.{earlierSize, earlierFile, stream-compression, mask-compression, other-size, planned-header, found-size, filled, same-size}
 use Rattle.format.proofs.Modes.{mask-mode, tail-empty, used-in}
 use Rattle.reference.specs.Compared.{isRleOrMasks, withImageSize, agreed, Typed}
 use Rattle.reference.proofs.Original.{originalFit, originalField, originalWord, originalCell, originalRow, rowIn, originalRows, originalFile}
@@ -114,11 +113,9 @@ module _ (i : Input) (ok : Typed i) (k : Checked i) where
   module _ (limit : ℕ) where
     -- an RLE file or a mask file: its length less its pixel offset is the image size
     filled-in : 0 < compressionOf limit i → headerSize (modeIn i) (i .source .format) ≡ 40 → withImageSize (earlierFile limit i) ≡ fileOf limit i
-    unfolding withImageSize fileSize
+    unfolding withImageSize earlierFile
     filled-in c h =
-        let n : length (earlierFile limit i) - dwordAt (earlierFile limit i) 10 ≡ imageSize limit i =
-        omega (arith, earlier-length limit i, earlier-offset limit i (omega (arith, head-small i ok k)), compressed-size limit i c, ap length (short-header-tail i h)) in
-        ap (λ (v : ℕ). put (earlierFile limit i) 34 (le32 v)) n ∙ sym (filled limit i)
+        ap (λ (v : ℕ). put (earlierFile limit i) 34 (le32 v)) (found-size limit i c h (omega (arith, head-small i ok k)) (earlierSize i)) ∙ sym (filled limit i)
 
     agreed-file : agreed i (earlierFile limit i) (formatOf limit i) ≡ fileOf limit i
     unfolding agreed formatOf rowsFormat

@@ -89,35 +89,18 @@ fn masks_of(head: &[u8]) -> BmpBitfields {
     }
 }
 
-fn endpoint(head: &[u8], k: usize) -> i32 {
-    signed(word(head, k))
-}
-
 fn calibrated_of(head: &[u8]) -> CalibratedRgb {
-    let red_x = endpoint(head, 12);
-    let red_y = endpoint(head, 13);
-    let red_z = endpoint(head, 14);
-    let green_x = endpoint(head, 15);
-    let green_y = endpoint(head, 16);
-    let green_z = endpoint(head, 17);
-    let blue_x = endpoint(head, 18);
-    let blue_y = endpoint(head, 19);
-    let blue_z = endpoint(head, 20);
+    let mut endpoints = [0i32; 9];
+    let mut k = 0;
+    while k < 9 {
+        endpoints[k] = signed(word(head, 12 + k));
+        k += 1;
+    }
     let red = word(head, 21);
     let green = word(head, 22);
     let blue = word(head, 23);
     CalibratedRgb {
-        endpoints: [
-            red_x,
-            red_y,
-            red_z,
-            green_x,
-            green_y,
-            green_z,
-            blue_x,
-            blue_y,
-            blue_z,
-        ],
+        endpoints,
         gamma: [red, green, blue],
     }
 }
