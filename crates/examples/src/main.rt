@@ -4,12 +4,14 @@
 ghost use mathlib.Core.Path.{_≡_};
 ghost use Prim.Native.Nat.{_<_, _≤_};
 ghost use lib.ListN.{length};
+ghost use Rattle.leaves.specs.Widening.{Widens};
 use leaves::bitfields::quantise;
 use leaves::bitfields::validate;
 use leaves::encoder::EncodeSource;
 use leaves::image::BmpPixelFormat;
 use leaves::options::EncodeOptions;
 use leaves::types::row_stride;
+use leaves::widening::widening_table;
 use libc::STDOUT_FILENO;
 use planner::encoder::Encoded;
 use planner::encoder::encode_into;
@@ -67,24 +69,40 @@ fn mask_check(bpp: u16, masks: [u32; 4]) {
 }
 
 // The sum of all samples fitted to n bits.
-fn fitted_sum(n: u32) -> u64
+fn fitted_sum(table: &[u16], n: u32) -> u64
+    requires { ⌜ Widens (now table) ⌝ }
     requires { ⌜ n ≤ 32 ⌝ }
 {
     let mut sum: u64 = 0;
     let mut sample: u32 = 0;
     while sample < 256 {
-        sum += quantise(sample as u8, n) as u64;
+        sum += quantise(table, sample as u8, n) as u64;
         sample += 1;
     }
     sum
 }
 
-fn fitted_sums() {
+fn fitted_sums(table: &[u16])
+    requires { ⌜ Widens (now table) ⌝ }
+{
     let mut n: u32 = 0;
     while n <= 32 {
-        number(fitted_sum(n));
+        number(fitted_sum(table, n));
         n += 1;
     }
+}
+
+// The largest sample fitted to 5, 10 and 17 bits.
+fn samples() {
+    let table = widening_table();
+    number(quantise(&table, 255, 5) as u64);
+    number(quantise(&table, 255, 10) as u64);
+    number(quantise(&table, 255, 17) as u64);
+}
+
+fn sums() {
+    let table = widening_table();
+    fitted_sums(&table);
 }
 
 // The hash of n bytes more.
@@ -221,9 +239,7 @@ fn row_examples() {
 fn main() {
     row_examples();
     io::write_all(STDOUT_FILENO, b"\nM9");
-    number(quantise(255, 5) as u64);
-    number(quantise(255, 10) as u64);
-    number(quantise(255, 17) as u64);
+    samples();
     io::write_all(STDOUT_FILENO, b"\nM10");
     number(row_stride(32, 1) as u64);
     number(row_stride(33, 1) as u64);
@@ -238,7 +254,7 @@ fn main() {
     io::write_all(STDOUT_FILENO, b"\none byte short");
     file(4, 6, &[7u8; 5]);
     io::write_all(STDOUT_FILENO, b"\nfitted");
-    fitted_sums();
+    sums();
     io::write_all(STDOUT_FILENO, b"\nrows");
     all_rows(false);
     all_rows(true);

@@ -1,13 +1,15 @@
 -- Laws of `fit`.
 use mathlib.Core.Path.{_≡_, refl, sym, ap, _∙_, subst}
 use mathlib.Core.Bool.{Bool, true, false, cond}
-use Prim.Native.Nat.{ℕ, _+_, _-_, _*_, _/_, _^_, _<_, _≤_}
-use native.Mathlib.Nat.{lt-of-lt-of-le, mul-assoc, add-mul-div-right}
+use Prim.Native.Nat.{ℕ, _+_, _-_, _*_, _/_, _%_, _^_, _<_, _≤_}
+use native.Mathlib.Nat.{lt-of-lt-of-le}
 use native.Mathlib.Omega.{arith}
-use borrow.Author.Tests.{leb-true, leb-false}
+use borrow.Author.Tests.{leb-true, leb-false, le-leb, lt-leb}
 use lib.Arith.{digits-lt}
 use lib.Dec.{leb}
-use lib.Pow.{pow-add, pow-mono, pow-pos, shr-lt, shr-shr}
+use lib.Pow.{pow-add, pow-mono, shr-lt, shl-exact}
+use mir.Syntax.{w32}
+use mir.Val.{Fits}
 use Rattle.leaves.specs.Fit.{fit}
 
 -- a sample moved up by n - 8 bits, with fewer than that below it, is in n bits
@@ -39,35 +41,30 @@ fit-lt n sample s = go (leb n 8) (leb n 15) refl refl
         let k : 15 < n = leb-false n 15 f in
         joined-lt n sample sample (omega arith) s (whole-lt n sample k s)
 
--- at most 8 bits: the byte twice over, moved down by 8 and then by 8 - n
-narrow : (n s : ℕ) → n ≤ 8 → s < 256 → s * 257 / 2 ^ (16 - n) ≡ s / 2 ^ (8 - n)
-narrow n s h l =
-    let e : 16 - n ≡ 8 + (8 - n) = omega arith in
-    let f : s * 257 / 2 ^ 8 ≡ s = omega arith in
-    ap (λ (z : ℕ). s * 257 / 2 ^ z) e ∙ sym (shr-shr (s * 257) 8 (8 - n)) ∙ ap (λ (z : ℕ). z / 2 ^ (8 - n)) f
+-- a sample fitted to at most 32 bits is a word
+pub fits-word : (n sample r : ℕ) → n ≤ 32 → sample < 256 → r ≡ fit n sample → Fits w32 r
+fits-word n sample r h s e = record { fits = rw e (lt-of-lt-of-le (fit-lt n sample s) (pow-mono h)) }
 
--- 8 to 16 bits: the high byte moved down by k is the byte moved up by 8 - k
-wide : (k m s : ℕ) → m + k ≡ 8 → s * 257 / 2 ^ k ≡ s * 2 ^ m + s / 2 ^ k
-wide k m s h =
-    let p : 2 ^ m * 2 ^ k ≡ 256 = sym (pow-add 2 m k) ∙ ap (λ (z : ℕ). 2 ^ z) h in
-    let q : s * 2 ^ m * 2 ^ k ≡ s * 256 = mul-assoc s (2 ^ m) (2 ^ k) ∙ ap (λ (z : ℕ). s * z) p in
-    let t : s * 257 ≡ s + s * 2 ^ m * 2 ^ k = omega arith in
-    let r : (s + s * 2 ^ m * 2 ^ k) / 2 ^ k ≡ s / 2 ^ k + s * 2 ^ m = add-mul-div-right s (s * 2 ^ m) (pow-pos k) in
-    ap (λ (z : ℕ). z / 2 ^ k) t ∙ r ∙ omega arith
-
--- the fitted sample, with no branch
-pub fit-short : (n s : ℕ) → n ≤ 16 → s < 256 → s * 257 / 2 ^ (16 - n) ≡ fit n s
+-- the three cases, as code computes them
+pub narrow : (n sample : ℕ) → n ≤ 8 → sample / 2 ^ (8 - n) ≡ fit n sample
 unfolding fit
-fit-short n s h l = go (leb n 8) (leb n 15) refl refl
+narrow n sample h = rw (le-leb n 8 h)
+
+pub middle : (n sample : ℕ) → 8 < n → n ≤ 16 → sample < 256 → sample * 2 ^ (n - 8) % 4294967296 + sample / 2 ^ (16 - n) ≡ fit n sample
+unfolding fit
+middle n sample h k s = go (leb n 15) refl
   where
-    go : (a b : Bool) → leb n 8 ≡ a → leb n 15 ≡ b
-        → s * 257 / 2 ^ (16 - n) ≡ cond a (s / 2 ^ (8 - n)) (cond b (s * 2 ^ (n - 8) + s / 2 ^ (8 - (n - 8))) (s * 2 ^ (n - 8) + s))
-    go true b e f = narrow n s (leb-true n 8 e) l
-    go false true e f =
-        let p : 8 < n = leb-false n 8 e in
-        let q : 8 - (n - 8) ≡ 16 - n = omega arith in
-        rw q (wide (16 - n) (n - 8) s (omega arith))
-    go false false e f =
-        let p : 15 < n = leb-false n 15 f in
-        let q : n ≡ 16 = omega arith in
-        rw q (omega arith)
+    low : sample * 2 ^ (n - 8) % 4294967296 ≡ sample * 2 ^ (n - 8)
+    low = shl-exact 8 (n - 8) 32 s (omega arith)
+
+    go : (b : Bool) → leb n 15 ≡ b → sample * 2 ^ (n - 8) % 4294967296 + sample / 2 ^ (16 - n) ≡ fit n sample
+    go true e =
+        let q : 16 - n ≡ 8 - (n - 8) = omega (arith, leb-true n 15 e) in
+        rw (lt-leb n 8 h, e, low, q)
+    go false e =
+        let q : n ≡ 16 = omega (arith, leb-false n 15 e) in
+        rw (lt-leb n 8 h, e, low, q) (omega arith)
+
+pub wide : (n sample : ℕ) → 15 < n → n ≤ 32 → sample < 256 → sample * 2 ^ (n - 8) % 4294967296 + sample ≡ fit n sample
+unfolding fit
+wide n sample h k s = rw (lt-leb n 8 (omega arith), lt-leb n 15 h) (ap (λ (z : ℕ). z + sample) (shl-exact 8 (n - 8) 32 s (omega arith)))

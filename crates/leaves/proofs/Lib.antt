@@ -6,4 +6,5 @@ pub mod Overlap
 pub mod Puts
 pub mod Runs
 pub mod TableCounts
+pub mod TableRule
 pub mod Tests

@@ -8,3 +8,4 @@ pub mod Put
 pub mod Refusals
 pub mod Sizes
 pub mod Texts
+pub mod Widening

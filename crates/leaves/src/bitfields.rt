@@ -6,10 +6,12 @@ ghost use Prim.Native.Nat.{_+_, _^_, _<_, _≤_};
 ghost use Rattle.leaves.specs.Fit.{fit};
 ghost use Rattle.leaves.specs.Masks.{isOneRun, unionOf, maskRows, bitfieldsRows, hasAlphaMask, maskCompression, ShiftLen};
 ghost use Rattle.leaves.specs.Refusals.{checkNumber, firstNumber};
+ghost use Rattle.leaves.specs.Widening.{Widens};
 use crate::error::Check;
 use crate::error::Refusal;
 use crate::types::BI_ALPHABITFIELDS;
 use crate::types::BI_BITFIELDS;
+use crate::widening::widened;
 
 pub struct BmpBitfields {
     pub bpp: u16,
@@ -121,19 +123,19 @@ pub fn mask_shift_len(mask: u32) -> MaskShiftLen
     MaskShiftLen { shift, len }
 }
 
-// A sample of 8 bits, fitted to n bits: its top bits, or its bits with the freed low bits filled from
-// its top.
-pub fn quantise(sample: u8, n: u32) -> u32
+// A sample of 8 bits, fitted to n bits: to 9 up to 16 the lent widening table's number, to fewer its
+// top bits, to more the sample moved up with the sample below it.
+pub fn quantise(table: &[u16], sample: u8, n: u32) -> u32
+    requires { ⌜ Widens (now table) ⌝ }
     requires { ⌜ n ≤ 32 ⌝ }
     ensures { λ r. ⌜ r ≡ fit n sample ⌝ }
 {
     let s = sample as u32;
+    if n > 8 && n <= 16 {
+        return widened(table, s, n);
+    }
     if n <= 8 {
         return s >> (8 - n);
     }
-    let extra = n - 8;
-    if extra >= 8 {
-        return (s << extra) + s;
-    }
-    (s << extra) + (s >> (8 - extra))
+    (s << (n - 8)) + s
 }

@@ -4,6 +4,7 @@ use leaves::bitfields::quantise;
 use leaves::encoder::EncodeSource;
 use leaves::image::BmpPixelFormat;
 use leaves::options::EncodeOptions;
+use leaves::widening::widening_table;
 
 // The sum, or the largest number where it would be larger.
 pub(crate) fn further(a: usize, b: usize) -> usize {
@@ -176,7 +177,8 @@ fn fitted(sample: u8, mask: u32) -> u32 {
     if mask == 0 {
         return 0;
     }
-    quantise(sample, u32::count_ones(mask))
+    let table = widening_table();
+    quantise(&table, sample, u32::count_ones(mask))
 }
 
 // The samples as they are, without alpha; in mask mode each fitted to its mask.

@@ -13,8 +13,9 @@ use Rattle.rows.specs.declared.pack.RowPack.the-variants.{Bgra32, Bgr24,
 use Rattle.leaves.specs.Lists.{cat}
 use Rattle.leaves.specs.Put.{put}
 use Rattle.leaves.specs.Sizes.{rowStride, hasTable}
+use Rattle.leaves.specs.Widening.{Widens}
 use Rattle.rows.specs.Packing.{packed}
-use Rattle.rows.specs.StoredRows.{padded, cell24, cell32, maskCell, storedRow, packBits, packBytes, LayoutOk, PackOk, rowOf, sourceRow, storedRows}
+use Rattle.rows.specs.StoredRows.{padded, cell24, cell32, maskCell, storedRow, packBits, packBytes, LayoutOk, PackOk, inMaskMode, rowOf, sourceRow, storedRows}
 use Rattle.leaves.proofs.ListLaws.{length-tab, length-cat}
 use Rattle.rows.proofs.PackLaws.{put-cell}
 use Rattle.rows.proofs.MaskCells.{all-put, length-maskCell, cells-fit}
@@ -44,12 +45,12 @@ indices-give p bpp w at row d x e h k =
     rw e (rw f at k)
 
 -- what is asked in the case of masks
-pub masks-ask : (p : RowPack) (n : ℕ) (bgr : Bool) (layout : MaskLayout) (w m at l : ℕ) → p ≡ Masks n bgr layout → PackOk p → m ≡ w * packBytes p
-    → at + rowStride w (packBits p) ≤ l
-    → LayoutOk layout × (((n ≡ 3) ⊎ (n ≡ 4)) × ((m ≡ w * n) × (at + rowStride w (layout .bpp) ≤ l)))
-masks-ask p n bgr layout w m at l e ok h k =
+pub masks-ask : (p : RowPack) (n : ℕ) (bgr : Bool) (layout : MaskLayout) (table : List ℕ) (w m at l : ℕ) → p ≡ Masks n bgr layout → PackOk p
+    → m ≡ w * packBytes p → at + rowStride w (packBits p) ≤ l → (inMaskMode p ≡ true → Widens table)
+    → LayoutOk layout × (((n ≡ 3) ⊎ (n ≡ 4)) × ((m ≡ w * n) × ((at + rowStride w (layout .bpp) ≤ l) × Widens table)))
+masks-ask p n bgr layout table w m at l e ok h k t =
     let good : ((n ≡ 3) ⊎ (n ≡ 4)) × LayoutOk layout = rw e at ok in
-    (good .1, (good .0, (rw e at h, rw e at k)))
+    (good .1, (good .0, (rw e at h, (rw e at k, t (ap inMaskMode e)))))
 
 -- bytes that are no more than the length are padded to it
 length-padded : (n : ℕ) (bytes : List ℕ) → length bytes ≤ n → length (padded n bytes) ≡ n

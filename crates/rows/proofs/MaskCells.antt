@@ -4,7 +4,7 @@ use mathlib.Core.Bool.{Bool, false, cond}
 use mathlib.Core.Logic.{_⊎_, inl, inr}
 use mathlib.Core.List.{List}
 use Prim.Native.Nat.{ℕ, _+_, _-_, _*_, _/_, _%_, _^_, _≤_, _<_}
-use native.Mathlib.Nat.{add-zero, zero-mul, suc-mul, mul-le-mul-right}
+use native.Mathlib.Nat.{add-zero, zero-mul, suc-mul, mul-le-mul-right, eq-or-lt-of-le}
 use native.Mathlib.Numerals.{add-one}
 use native.Mathlib.Omega.{arith}
 use borrow.Author.Tests.{eq-eqb, ne-eqb}
@@ -55,6 +55,18 @@ field-none ch s e h =
 pub field-some : (ch : MaskShiftLen) (s q : ℕ) → q ≡ fit (ch .len) s → s < 256 → ch .shift + ch .len ≤ 32 → q * 2 ^ ch .shift % 4294967296 ≡ field ch s
 unfolding field
 field-some ch s q e h k = rw e (shl-exact (ch .len) (ch .shift) 32 (fit-lt (ch .len) s h) (omega arith))
+
+-- a fitted sample as the code shifts it: a channel of no bits may stand at 32
+pub field-is : (ch : MaskShiftLen) (s q : ℕ) → q ≡ fit (ch .len) s → s < 256 → ch .shift + ch .len ≤ 32 → q * 2 ^ (ch .shift % 32) % 4294967296 ≡ field ch s
+field-is ch s q e h k = go (eq-or-lt-of-le (omega arith))
+  where
+    go : (0 ≡ ch .len) ⊎ (0 < ch .len) → q * 2 ^ (ch .shift % 32) % 4294967296 ≡ field ch s
+    go (inl n) =
+        let z : q ≡ 0 = e ∙ ap (λ (l : ℕ). fit l s) (sym n) ∙ lt-one (fit-lt 0 s h) in
+        rw (z, zero-mul (2 ^ (ch .shift % 32))) (field-none ch s (sym n) h)
+    go (inr p) =
+        let m : ch .shift % 32 ≡ ch .shift = omega arith in
+        rw m (field-some ch s q e h k)
 
 -- a pixel has three bytes at least
 pub three-bytes : (n : ℕ) → (n ≡ 3) ⊎ (n ≡ 4) → 3 ≤ n

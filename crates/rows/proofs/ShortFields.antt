@@ -1,44 +1,23 @@
--- Laws of mask mode with channels of at most 16 bits: a sample is fitted with no branch, and a word is made of a pixel's word.
+-- Laws of mask mode with channels of at most 8 bits: a word is made of a pixel's word.
 use mathlib.Core.Path.{_≡_, refl, sym, ap, ap₂, _∙_, subst}
 use mathlib.Core.Bool.{Bool, true, false, cond}
 use mathlib.Core.Logic.{_⊎_, inl, inr}
 use mathlib.Core.List.{List}
-use Prim.Native.Nat.{ℕ, _+_, _-_, _*_, _/_, _%_, _^_, _≤_, _<_}
-use native.Mathlib.Nat.{zero-mul, eq-or-lt-of-le}
+use Prim.Native.Nat.{ℕ, _+_, _*_, _/_, _%_, _≤_}
 use native.Mathlib.Omega.{arith}
 use lib.Bits.{bitOr}
 use lib.Dec.{eqb}
 use lib.ListN.{length, getD}
-use lib.Pow.{shl-exact}
 use Rattle.leaves.specs.declared.bitfields.MaskShiftLen.{MaskShiftLen}
 use Rattle.rows.specs.declared.masks.MaskLayout.{MaskLayout}
 use Rattle.leaves.specs.Bytes.{le16, le32}
-use Rattle.leaves.specs.Fit.{fit}
 use Rattle.leaves.specs.Lists.{cat}
 use Rattle.leaves.specs.Put.{put}
 use Rattle.leaves.specs.Sizes.{rowStride}
 use Rattle.rows.specs.StoredRows.{field, alphaIn, maskWord, maskCell, cell32, LayoutOk}
 use Rattle.leaves.proofs.BitLaws.{or-turn}
-use Rattle.leaves.proofs.Fitting.{fit-lt, fit-short}
 use Rattle.leaves.proofs.ListLaws.{cat-ext}
 use Rattle.rows.proofs.MaskCells.{length-maskCell, cells-fit}
-
--- a fitted sample in its place, as the code shifts it; a channel of no bits has any shift, and adds nothing
-pub short-field : (ch : MaskShiftLen) (s : ℕ) → s < 256 → ch .len ≤ 16 → ch .shift + ch .len ≤ 32
-    → s * 257 / 2 ^ (16 - ch .len) * 2 ^ (ch .shift % 32) % 4294967296 ≡ field ch s
-unfolding field
-short-field ch s l h k = go (eq-or-lt-of-le (omega arith))
-  where
-    f : s * 257 / 2 ^ (16 - ch .len) ≡ fit (ch .len) s
-    f = fit-short (ch .len) s h l
-
-    go : (0 ≡ ch .len) ⊎ (0 < ch .len) → s * 257 / 2 ^ (16 - ch .len) * 2 ^ (ch .shift % 32) % 4294967296 ≡ fit (ch .len) s * 2 ^ ch .shift
-    go (inl e) =
-        let z : fit (ch .len) s ≡ 0 = ap (λ (n : ℕ). fit n s) (sym e) ∙ sym (fit-short 0 s (omega arith) l) ∙ omega arith in
-        rw (f, z, zero-mul (2 ^ (ch .shift % 32)), zero-mul (2 ^ ch .shift))
-    go (inr p) =
-        let m : ch .shift % 32 ≡ ch .shift = omega arith in
-        rw (f, m) (shl-exact (ch .len) (ch .shift) 32 (fit-lt (ch .len) s l) (omega arith))
 
 -- the word of a pixel of which the bytes are given as a word
 pub of-pixel : (layout : MaskLayout) (row : List ℕ) (x pixel v : ℕ) → le32 pixel ≡ cell32 true row x → v ≡ maskWord layout 4 false (le32 pixel) 0

@@ -91,12 +91,12 @@ pub record LayoutOk (layout : MaskLayout) : Type 0 where
   pub blue : layout .b .shift + layout .b .len ≤ 32
   pub alpha : layout .a .shift + layout .a .len ≤ 32
 
--- those of them whose channels have at most 16 bits each
+-- those of them whose channels have at most 8 bits each
 pub record ShortOk (layout : MaskLayout) : Type 0 where
-  pub red : layout .r .len ≤ 16
-  pub green : layout .g .len ≤ 16
-  pub blue : layout .b .len ≤ 16
-  pub alpha : layout .a .len ≤ 16
+  pub red : layout .r .len ≤ 8
+  pub green : layout .g .len ≤ 8
+  pub blue : layout .b .len ≤ 8
+  pub alpha : layout .a .len ≤ 8
 
 abbrev pub PackOk : RowPack → Type 0
 PackOk (Bgra32 bgr) = Unit {0}
@@ -104,6 +104,14 @@ PackOk (Bgr24 bgr) = Unit {0}
 PackOk Words16 = Unit {0}
 PackOk (Indexed bpp) = hasTable bpp ≡ true
 PackOk (Masks n bgr layout) = ((n ≡ 3) ⊎ (n ≡ 4)) × LayoutOk layout
+
+-- the packer that fits samples to masks, and so reads the widening table
+abbrev pub inMaskMode : RowPack → Bool
+inMaskMode (Bgra32 bgr) = false
+inMaskMode (Bgr24 bgr) = false
+inMaskMode Words16 = false
+inMaskMode (Indexed bpp) = false
+inMaskMode (Masks n bgr layout) = true
 
 -- document 01, The plan: "Rows are stored bottom first unless top-down": the stored row s is this row of the picture, counted from the top
 abbrev pub rowOf : Bool → ℕ → ℕ → ℕ

@@ -10,6 +10,7 @@ ghost use Rattle.leaves.specs.Lists.{cat};
 ghost use Rattle.leaves.specs.Masks.{ShiftLen};
 ghost use Rattle.leaves.specs.Put.{put};
 ghost use Rattle.leaves.specs.Sizes.{rowStride};
+ghost use Rattle.leaves.specs.Widening.{Widens};
 ghost use Rattle.rows.specs.declared.pack.RowPack.the-variants.{Masks};
 ghost use Rattle.rows.specs.StoredRows.{field, maskWord, maskCell, storedRow, LayoutOk, ShortOk};
 use crate::exchange::pixel_word;
@@ -30,26 +31,24 @@ pub struct MaskLayout {
     pub a: MaskShiftLen,
 }
 
-// A sample in its channel's place.
-fn mask_field(channel: MaskShiftLen, sample: u8) -> u32
+// A sample in its channel's place. A channel of no bits may have any shift, and adds nothing.
+fn mask_field(table: &[u16], channel: MaskShiftLen, sample: u8) -> u32
     requires { ⌜ channel .shift + channel .len ≤ 32 ⌝ }
+    requires { ⌜ Widens (now table) ⌝ }
     ensures { λ r. ⌜ r ≡ field channel sample ⌝ }
 {
-    if channel.len == 0 {
-        return 0;
-    }
-    quantise(sample, channel.len) << channel.shift
+    quantise(table, sample, channel.len) << (channel.shift % 32)
 }
 
-// A sample in the place of a channel of at most 16 bits: the byte twice over, cut to the channel's
-// length. It has no branch, and its shifts are those of all pixels, as vector code needs them.
+// A sample in the place of a channel of at most 8 bits. It has no branch and reads no table, and its
+// shifts are those of all pixels, as vector code needs them.
 fn short_field(channel: MaskShiftLen, sample: u32) -> u32
     requires { ⌜ sample < 256 ⌝ }
-    requires { ⌜ channel .len ≤ 16 ⌝ }
+    requires { ⌜ channel .len ≤ 8 ⌝ }
     requires { ⌜ channel .shift + channel .len ≤ 32 ⌝ }
     ensures { λ r. ⌜ r ≡ field channel sample ⌝ }
 {
-    ((sample * 257) >> (16 - channel.len)) << (channel.shift % 32)
+    (sample >> (8 - channel.len)) << (channel.shift % 32)
 }
 
 // The larger of two lengths.
@@ -93,27 +92,37 @@ impl MaskLayout {
     }
 
     // The word of pixel x of a row with red first.
-    fn word(self, src: &[u8], in_bpp: usize, x: usize) -> u32
+    fn word(self, table: &[u16], src: &[u8], in_bpp: usize, x: usize) -> u32
         requires { ⌜ LayoutOk self ⌝ }
         requires { ⌜ («in_bpp» ≡ 3) ⊎ («in_bpp» ≡ 4) ⌝ }
         requires { ⌜ x * «in_bpp» + «in_bpp» ≤ length (now src) ⌝ }
+        requires { ⌜ Widens (now table) ⌝ }
         ensures { λ r. ⌜ r ≡ maskWord self «in_bpp» false (now (src .entry)) x ⌝ }
     {
         let s = x * in_bpp;
         let alpha = if in_bpp == 4 { src[s + 3] } else { 255 };
-        let r = mask_field(self.r, src[s]);
-        let g = mask_field(self.g, src[s + 1]);
-        let b = mask_field(self.b, src[s + 2]);
-        let a = mask_field(self.a, alpha);
+        let r = mask_field(table, self.r, src[s]);
+        let g = mask_field(table, self.g, src[s + 1]);
+        let b = mask_field(table, self.b, src[s + 2]);
+        let a = mask_field(table, self.a, alpha);
         r | g | b | a
     }
 
     // The cells of a row with red first, for channels of any length.
-    fn long_cells(self, src: &[u8], in_bpp: usize, width: u32, dst: &mut [u8], at: usize)
+    fn long_cells(
+        self,
+        table: &[u16],
+        src: &[u8],
+        in_bpp: usize,
+        width: u32,
+        dst: &mut [u8],
+        at: usize,
+    )
         requires { ⌜ LayoutOk self ⌝ }
         requires { ⌜ («in_bpp» ≡ 3) ⊎ («in_bpp» ≡ 4) ⌝ }
         requires { ⌜ length (now src) ≡ width * «in_bpp» ⌝ }
         requires { ⌜ at + width * (self .bpp / 8) ≤ length (now dst) ⌝ }
+        requires { ⌜ Widens (now table) ⌝ }
         ensures { λ _. ⌜ now (dst .exit) ≡ put (now (dst .entry)) at (cat (maskCell self «in_bpp» false (now (src .entry))) width) ⌝ }
     {
         let w = width as usize;
@@ -121,13 +130,13 @@ impl MaskLayout {
         let size = bpp as usize / 8;
         let mut x = 0;
         while x < w {
-            let word = self.word(src, in_bpp, x);
+            let word = self.word(table, src, in_bpp, x);
             put_cell(bpp, word, dst, at + x * size);
             x += 1;
         }
     }
 
-    // Whether pixels of so many bytes have alpha, and each channel has at most 16 bits.
+    // Whether pixels of so many bytes have alpha, and each channel has at most 8 bits.
     fn is_short(self, in_bpp: usize) -> bool
         ensures { λ r. ⌜ (r ≡ true → («in_bpp» ≡ 4) × ShortOk self) ⌝ }
     {
@@ -138,7 +147,7 @@ impl MaskLayout {
             longer(self.r.len, self.g.len),
             longer(self.b.len, self.a.len),
         )
-            <= 16
+            <= 8
     }
 
     // The layout with which pixels of this order are packed as if red came first.
@@ -227,7 +236,7 @@ impl MaskLayout {
         }
     }
 
-    // The cells of a row of pixels of 4 bytes, red first, where each channel has at most 16 bits.
+    // The cells of a row of pixels of 4 bytes, red first, where each channel has at most 8 bits.
     fn short_cells(self, src: &[u8], width: u32, dst: &mut [u8], at: usize)
         requires { ⌜ LayoutOk self ⌝ }
         requires { ⌜ ShortOk self ⌝ }
@@ -242,19 +251,29 @@ impl MaskLayout {
         self.short_cells32(src, width, dst, at);
     }
 
-    // Cells of 16 or 32 bits, fitted to masks.
-    pub fn pack(self, src: &[u8], in_bpp: usize, bgr: bool, width: u32, dst: &mut [u8], at: usize)
+    // Cells of 16 or 32 bits, fitted to masks; the widening table is lent.
+    pub fn pack(
+        self,
+        table: &[u16],
+        src: &[u8],
+        in_bpp: usize,
+        bgr: bool,
+        width: u32,
+        dst: &mut [u8],
+        at: usize,
+    )
         requires { ⌜ LayoutOk self ⌝ }
         requires { ⌜ («in_bpp» ≡ 3) ⊎ («in_bpp» ≡ 4) ⌝ }
         requires { ⌜ length (now src) ≡ width * «in_bpp» ⌝ }
         requires { ⌜ at + rowStride width (self .bpp) ≤ length (now dst) ⌝ }
+        requires { ⌜ Widens (now table) ⌝ }
         ensures { λ _. ⌜ now (dst .exit) ≡ put (now (dst .entry)) at (storedRow (Masks «in_bpp» bgr self) width (now (src .entry))) ⌝ }
     {
         let layout = self.ordered(bgr);
         if layout.is_short(in_bpp) {
             layout.short_cells(src, width, dst, at);
         } else {
-            layout.long_cells(src, in_bpp, width, dst, at);
+            layout.long_cells(table, src, in_bpp, width, dst, at);
         }
         let filled = width as usize * (self.bpp as usize / 8);
         put_zeros(dst, at + filled, row_stride(width, self.bpp) - filled);

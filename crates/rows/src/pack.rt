@@ -1,12 +1,14 @@
 // How a source row becomes a stored row (the Rust's encoder.rs, section on pixel packing). Each packer
 // writes one whole stored row, padding included, whatever the buffer held before.
 ghost use mathlib.Core.Path.{_≡_};
+ghost use mathlib.Core.Bool.{true};
 ghost use Prim.Native.Nat.{_+_, _*_, _≤_};
 ghost use lib.ListN.{length};
 ghost use Rattle.leaves.specs.Put.{put};
 ghost use Rattle.leaves.specs.Sizes.{rowStride};
+ghost use Rattle.leaves.specs.Widening.{Widens};
 ghost use Rattle.rows.specs.declared.pack.RowPack.the-variants.{Bgra32, Bgr24, Words16};
-ghost use Rattle.rows.specs.StoredRows.{storedRow, packBits, packBytes, PackOk, storedRows};
+ghost use Rattle.rows.specs.StoredRows.{storedRow, packBits, packBytes, PackOk, inMaskMode, storedRows};
 use crate::exchange::exchange24;
 use crate::exchange::exchange32;
 use crate::indices::pack_indices;
@@ -14,6 +16,7 @@ use crate::masks::MaskLayout;
 use leaves::buffer::put_slice;
 use leaves::buffer::put_zeros;
 use leaves::types::row_stride;
+use leaves::widening::widening_table;
 
 // How a source row becomes a stored row.
 pub enum RowPack {
@@ -113,11 +116,29 @@ impl RowPack {
         }
     }
 
+    // Whether samples are fitted to masks.
+    fn in_mask_mode(self) -> bool
+        ensures { λ r. ⌜ r ≡ inMaskMode self ⌝ }
+    {
+        match self {
+            RowPack::Bgra32 { bgr: _ } => false,
+            RowPack::Bgr24 { bgr: _ } => false,
+            RowPack::Words16 => false,
+            RowPack::Indexed { bpp: _ } => false,
+            RowPack::Masks {
+                in_bpp: _,
+                bgr: _,
+                layout: _,
+            } => true,
+        }
+    }
+
     // Writes the stored row of a source row.
-    pub fn row(self, src: &[u8], width: u32, dst: &mut [u8], at: usize)
+    pub fn row(self, table: &[u16], src: &[u8], width: u32, dst: &mut [u8], at: usize)
         requires { ⌜ PackOk self ⌝ }
         requires { ⌜ length (now src) ≡ width * packBytes self ⌝ }
         requires { ⌜ at + rowStride width (packBits self) ≤ length (now dst) ⌝ }
+        requires { ⌜ (inMaskMode self ≡ true → Widens (now table)) ⌝ }
         ensures { λ _. ⌜ now (dst .exit) ≡ put (now (dst .entry)) at (storedRow self width (now (src .entry))) ⌝ }
     {
         match self {
@@ -129,12 +150,47 @@ impl RowPack {
                 in_bpp,
                 bgr,
                 layout,
-            } => layout.pack(src, in_bpp, bgr, width, dst, at),
+            } => layout.pack(table, src, in_bpp, bgr, width, dst, at),
         }
     }
 
-    // Writes all stored rows of a plane. Each row's source is the part of the plane that starts at its
-    // own offset.
+    // The stored rows of a plane, one after the other. Each row's source is the part of the plane that
+    // starts at its own offset.
+    fn pack_rows(
+        self,
+        table: &[u16],
+        plane: &[u8],
+        stride: usize,
+        width: u32,
+        height: u32,
+        top_down: bool,
+        dst: &mut [u8],
+        at: usize,
+    )
+        requires { ⌜ PackOk self ⌝ }
+        requires { ⌜ width * packBytes self ≤ stride ⌝ }
+        requires { ⌜ stride * height ≤ length (now plane) ⌝ }
+        requires { ⌜ at + rowStride width (packBits self) * height ≤ length (now dst) ⌝ }
+        requires { ⌜ (inMaskMode self ≡ true → Widens (now table)) ⌝ }
+        ensures { λ _. ⌜ now (dst .exit) ≡ put (now (dst .entry)) at (storedRows self width height «top_down» (now (plane .entry)) stride) ⌝ }
+    {
+        let bytes = width as usize * self.source_bytes();
+        let stored = row_stride(width, self.bits_per_pixel());
+        let h = height as usize;
+        let mut o = at;
+        let mut y = 0;
+        while y < h {
+            let from = if top_down { y } else { h - 1 - y };
+            let start = from * stride;
+            let end = start + bytes;
+            self.row(table, &plane[start..end], width, dst, o);
+            o += stored;
+            y += 1;
+        }
+    }
+
+    // Writes all stored rows of a plane. The widening table is made once for all of them, and in mask mode
+    // only.
     pub fn pack_all(
         self,
         plane: &[u8],
@@ -151,18 +207,12 @@ impl RowPack {
         requires { ⌜ at + rowStride width (packBits self) * height ≤ length (now dst) ⌝ }
         ensures { λ _. ⌜ now (dst .exit) ≡ put (now (dst .entry)) at (storedRows self width height «top_down» (now (plane .entry)) stride) ⌝ }
     {
-        let bytes = width as usize * self.source_bytes();
-        let stored = row_stride(width, self.bits_per_pixel());
-        let h = height as usize;
-        let mut o = at;
-        let mut y = 0;
-        while y < h {
-            let from = if top_down { y } else { h - 1 - y };
-            let start = from * stride;
-            let end = start + bytes;
-            self.row(&plane[start..end], width, dst, o);
-            o += stored;
-            y += 1;
+        if self.in_mask_mode() {
+            let table = widening_table();
+            self.pack_rows(&table, plane, stride, width, height, top_down, dst, at);
+            return;
         }
+        let none = [0u16; 0];
+        self.pack_rows(&none, plane, stride, width, height, top_down, dst, at);
     }
 }

@@ -4,10 +4,10 @@ use Rattle.examples.proofs.fitted_sum.Statement.{statement}
 use Rattle.examples.proofs.fitted_sum.Tie as tie
 
 abbrev Inv-loop : tie.InvT-loop
-Inv-loop n sum₀ sample₀ sum sample = (sample ≤ 256) × (sum ≤ sample * 4294967295)
+Inv-loop table n sum₀ sample₀ sum sample = (sample ≤ 256) × (sum ≤ sample * 4294967295)
 
 abbrev μ-loop : tie.MeasureT-loop
-μ-loop n sum₀ sample₀ sum sample = 256 - sample
+μ-loop table n sum₀ sample₀ sum sample = 256 - sample
 
 loop-holds : tie.Need-loop-holds Inv-loop μ-loop
 loop-holds c = omega arith
@@ -16,7 +16,7 @@ cast-quantise : tie.Need-cast-quantise Inv-loop μ-loop
 cast-quantise c = omega arith
 
 quantise-requires : tie.Need-quantise-requires Inv-loop μ-loop
-quantise-requires c κs = omega arith
+quantise-requires c κs = (c .before .before .before .pre .0, omega arith)
 
 cast-sum : tie.Need-cast-sum Inv-loop μ-loop
 cast-sum c = omega arith

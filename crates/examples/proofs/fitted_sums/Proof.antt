@@ -4,16 +4,16 @@ use Rattle.examples.proofs.fitted_sums.Statement.{statement}
 use Rattle.examples.proofs.fitted_sums.Tie as tie
 
 abbrev Inv-loop : tie.InvT-loop
-Inv-loop n₀ n = n ≤ 33
+Inv-loop table n₀ n = n ≤ 33
 
 abbrev μ-loop : tie.MeasureT-loop
-μ-loop n₀ n = 33 - n
+μ-loop table n₀ n = 33 - n
 
 loop-holds : tie.Need-loop-holds Inv-loop μ-loop
 loop-holds c = omega arith
 
 fitted-sum-requires : tie.Need-fitted-sum-requires Inv-loop μ-loop
-fitted-sum-requires c κs = omega arith
+fitted-sum-requires c κs = (c .before .before .before .pre, omega arith)
 
 number-requires : tie.Need-number-requires Inv-loop μ-loop
 number-requires c κs = omega arith

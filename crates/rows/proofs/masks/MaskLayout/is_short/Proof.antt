@@ -18,7 +18,7 @@ longer-requires-3 c κs = tt
 
 returns-2 : tie.Need-returns-2
 returns-2 c = λ e.
-    let h = leb-true (c .longer3 .result) 16 e in
+    let h = leb-true (c .longer3 .result) 8 e in
     (omega arith, record { red = omega arith; green = omega arith; blue = omega arith; alpha = omega arith })
 
 pub is-short-spec : {M : Type 1} → statement M

@@ -13,43 +13,43 @@ use Rattle.rows.proofs.masks.MaskLayout.long_cells.Statement.{statement
 use Rattle.rows.proofs.masks.MaskLayout.long_cells.Tie as tie
 
 abbrev Inv-loop : tie.InvT-loop
-Inv-loop self src in-bpp width dst₀ at w bpp size x₀ dst x =
+Inv-loop self table src in-bpp width dst₀ at w bpp size x₀ dst x =
     (x ≤ w) × (length dst ≡ length dst₀) × (dst ≡ put dst₀ at (cat (maskCell self in-bpp false src) x))
 
 abbrev μ-loop : tie.MeasureT-loop
-μ-loop self src in-bpp width dst₀ at w bpp size x₀ dst x = w - x
+μ-loop self table src in-bpp width dst₀ at w bpp size x₀ dst x = w - x
 
 cast-size : tie.Need-cast-size Inv-loop μ-loop
 cast-size c = omega arith
 
 loop-holds : tie.Need-loop-holds Inv-loop μ-loop
 loop-holds c =
-    let a = c .before .before .args in
+    let a = c .before .before .before .args in
     (omega arith, refl, no-cells (maskCell (a .self) (a .in-bpp) false (a .src .now)) (a .dst .now) (a .at))
 
 word-requires : tie.Need-word-requires Inv-loop μ-loop
 word-requires c κs =
-    let s = c .before .before .before .before in
+    let s = c .before .before .before .before .before in
     let n = s .args .in-bpp in
-    (s .pre .0, (s .pre .1 .0, omega (arith, suc-mul (c .before .loop .x) n, mul-le-mul-right n (c .loop-test .taken))))
+    (s .pre .0, (s .pre .1 .0, (omega (arith, suc-mul (c .before .loop .x) n, mul-le-mul-right n (c .loop-test .taken)), s .pre .1 .1 .1 .1)))
 
 mul-put-cell : tie.Need-mul-put-cell Inv-loop μ-loop
 mul-put-cell c =
-    let s = c .before .before .before .before .before .before in
+    let s = c .before .before .before .before .before .before .before in
     let x = c .before .before .before .loop .x in
     let fits = next-fits (s .args .at) x (s .args .width) (s .args .self .bpp / 8) _ refl (c .before .before .loop-test .taken) in
     omega arith
 
 add-put-cell : tie.Need-add-put-cell Inv-loop μ-loop
 add-put-cell c =
-    let s = c .before .before .before .before .before .before in
+    let s = c .before .before .before .before .before .before .before in
     let x = c .before .before .before .loop .x in
     let fits = next-fits (s .args .at) x (s .args .width) (s .args .self .bpp / 8) _ refl (c .before .before .loop-test .taken) in
     omega arith
 
 put-cell-requires : tie.Need-put-cell-requires Inv-loop μ-loop
 put-cell-requires c κs =
-    let s = c .before .before .before .before .before .before in
+    let s = c .before .before .before .before .before .before .before in
     let x = c .before .before .before .loop .x in
     let fits = next-fits (s .args .at) x (s .args .width) (s .args .self .bpp / 8) _ refl (c .before .before .loop-test .taken) in
     (s .pre .0 .depth, omega arith)
@@ -63,7 +63,7 @@ loop-less c = omega arith
 loop-again : tie.Need-loop-again Inv-loop μ-loop
 loop-again c =
     let l = c .before .before .before .before .before .before .loop in
-    let s = c .before .before .before .before .before .before .before .before .before in
+    let s = c .before .before .before .before .before .before .before .before .before .before in
     let a = s .args in
     let k = a .self .bpp / 8 in
     let o = a .at + l .x * k in
@@ -82,7 +82,7 @@ same-length c = omega arith
 
 returns : tie.Need-returns Inv-loop μ-loop
 returns c =
-    let a = c .before .before .before .before .args in
+    let a = c .before .before .before .before .before .args in
     let l = c .before .loop in
     all-put (maskCell (a .self) (a .in-bpp) false (a .src .now)) (a .dst .now) (l .dst) (a .at) (l .x) (a .width) (omega arith) (l .inv .2)
 

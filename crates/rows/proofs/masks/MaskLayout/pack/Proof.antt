@@ -20,54 +20,54 @@ is-short-requires c κs = tt
 
 short-cells-requires : tie.Need-short-cells-requires
 short-cells-requires c κs =
-    let s = c .before .before .before .before .before .before in
+    let s = c .before .before .before .before .before .before .before in
     let a = s .args in
     let o = c .before .before .before .ordered in
     let short = c .before .before .is-short .ensures (c .before .if1 .taken) in (
       layout-ordered (a .self) (o .result) (a .bgr) (o .ensures) (s .pre .0),
-      (short .1, (s .pre .1 .1 .0 ∙ ap (λ (n : ℕ). a .width * n) (short .0), room-ordered (a .self) (o .result) (a .bgr) (o .ensures) (s .pre .0) (a .width) (a .at) (length (a .dst .now)) (s .pre .1 .1 .1))),
+      (short .1, (s .pre .1 .1 .0 ∙ ap (λ (n : ℕ). a .width * n) (short .0), room-ordered (a .self) (o .result) (a .bgr) (o .ensures) (s .pre .0) (a .width) (a .at) (length (a .dst .now)) (s .pre .1 .1 .1 .0))),
     )
 
 long-cells-requires : tie.Need-long-cells-requires
 long-cells-requires c κs =
-    let s = c .before .before .before .before .before .before in
+    let s = c .before .before .before .before .before .before .before in
     let a = s .args in
     let o = c .before .before .before .ordered in (
       layout-ordered (a .self) (o .result) (a .bgr) (o .ensures) (s .pre .0),
-      (s .pre .1 .0, (s .pre .1 .1 .0, room-ordered (a .self) (o .result) (a .bgr) (o .ensures) (s .pre .0) (a .width) (a .at) (length (a .dst .now)) (s .pre .1 .1 .1))),
+      (s .pre .1 .0, (s .pre .1 .1 .0, (room-ordered (a .self) (o .result) (a .bgr) (o .ensures) (s .pre .0) (a .width) (a .at) (length (a .dst .now)) (s .pre .1 .1 .1 .0), s .pre .1 .1 .1 .1))),
     )
 
 cast-filled : tie.Need-cast-filled
 cast-filled c = omega arith
 
 mul-filled : tie.Need-mul-filled
-mul-filled c = let s = c .before .before .before .before .before .before in omega (arith, cells-fit (s .args .width) (s .args .self .bpp) (s .pre .0 .depth))
+mul-filled c = let s = c .before .before .before .before .before .before .before in omega (arith, cells-fit (s .args .width) (s .args .self .bpp) (s .pre .0 .depth))
 
 add-put-zeros : tie.Need-add-put-zeros
-add-put-zeros c = let s = c .before .before .before .before .before .before .before in omega (arith, cells-fit (s .args .width) (s .args .self .bpp) (s .pre .0 .depth))
+add-put-zeros c = let s = c .before .before .before .before .before .before .before .before in omega (arith, cells-fit (s .args .width) (s .args .self .bpp) (s .pre .0 .depth))
 
 row-stride-requires : tie.Need-row-stride-requires
 row-stride-requires c κs = tt
 
 sub-put-zeros : tie.Need-sub-put-zeros
-sub-put-zeros c = let s = c .before .before .before .before .before .before .before .before in omega (arith, cells-fit (s .args .width) (s .args .self .bpp) (s .pre .0 .depth))
+sub-put-zeros c = let s = c .before .before .before .before .before .before .before .before .before in omega (arith, cells-fit (s .args .width) (s .args .self .bpp) (s .pre .0 .depth))
 
 put-zeros-requires : tie.Need-put-zeros-requires
 put-zeros-requires c κs =
-    let s = c .before .before .before .before .before .before .before .before in
+    let s = c .before .before .before .before .before .before .before .before .before in
     let i = c .before .before .before .if1 in
-    let same : length (i .dst) ≡ length (s .args .dst .now) = ⊎-elim {C = length (i .dst) ≡ length (s .args .dst .now)} (λ w. ap length (w .5) ∙ w .2 .kept .1 .1 .1 .0) (λ w. ap length (w .5) ∙ w .2 .kept .1 .1 .1 .1 .0) (i .came) in
+    let same : length (i .dst) ≡ length (s .args .dst .now) = ⊎-elim {C = length (i .dst) ≡ length (s .args .dst .now)} (λ w. ap length (w .5) ∙ w .2 .kept .1 .1 .1 .0) (λ w. ap length (w .5) ∙ w .2 .kept .1 .1 .1 .1 .1 .0) (i .came) in
     omega (arith, cells-fit (s .args .width) (s .args .self .bpp) (s .pre .0 .depth))
 
 same-length : tie.Need-same-length
 same-length c =
     let i = c .before .before .before .before .before .before .if1 in
-    let same : length (i .dst) ≡ length (c .before .before .before .before .before .before .before .before .before .before .before .args .dst .now) = ⊎-elim {C = length (i .dst) ≡ length (c .before .before .before .before .before .before .before .before .before .before .before .args .dst .now)} (λ w. ap length (w .5) ∙ w .2 .kept .1 .1 .1 .0) (λ w. ap length (w .5) ∙ w .2 .kept .1 .1 .1 .1 .0) (i .came) in
+    let same : length (i .dst) ≡ length (c .before .before .before .before .before .before .before .before .before .before .before .before .args .dst .now) = ⊎-elim {C = length (i .dst) ≡ length (c .before .before .before .before .before .before .before .before .before .before .before .before .args .dst .now)} (λ w. ap length (w .5) ∙ w .2 .kept .1 .1 .1 .0) (λ w. ap length (w .5) ∙ w .2 .kept .1 .1 .1 .1 .1 .0) (i .came) in
     omega arith
 
 returns : tie.Need-returns
 returns c =
-    let s = c .before .before .before .before .before .before .before .before .before .before .before in
+    let s = c .before .before .before .before .before .before .before .before .before .before .before .before in
     let a = s .args in
     let i = c .before .before .before .before .before .before .if1 in
     let k = c .before .before .before .before .before .before .before in
@@ -79,7 +79,7 @@ returns c =
     (λ w. w .5 ∙ w .2 .ensures)
     (i .came) in
     masks-end (a .self) (a .in-bpp) (a .bgr) (a .src .now) (a .dst .now) (i .dst) (c .before .before .put-zeros .last .0) (a .at) (a .width) (r .result) (s .pre .0 .depth)
-    (put-ordered (a .self) (o .result) (a .bgr) (o .ensures) (a .in-bpp) (a .src .now) (a .dst .now) (i .dst) (a .at) (a .width) cells) (r .ensures) (s .pre .1 .1 .1) (c .before .before .put-zeros .ensures)
+    (put-ordered (a .self) (o .result) (a .bgr) (o .ensures) (a .in-bpp) (a .src .now) (a .dst .now) (i .dst) (a .at) (a .width) cells) (r .ensures) (s .pre .1 .1 .1 .0) (c .before .before .put-zeros .ensures)
 
 pub pack-spec : {M : Type 1} → statement M
 pack-spec =

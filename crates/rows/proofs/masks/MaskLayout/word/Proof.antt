@@ -15,36 +15,36 @@ shared-slice-read-alpha : tie.Need-shared-slice-read-alpha
 shared-slice-read-alpha c = omega arith
 
 shared-slice-read-mask-field : tie.Need-shared-slice-read-mask-field
-shared-slice-read-mask-field c = let s = c .before .before .before in omega (arith, three-bytes (s .args .in-bpp) (s .pre .1 .0))
+shared-slice-read-mask-field c = let s = c .before .before .before .before in omega (arith, three-bytes (s .args .in-bpp) (s .pre .1 .0))
 
 mask-field-requires : tie.Need-mask-field-requires
-mask-field-requires c κs = c .before .before .before .pre .0 .red
+mask-field-requires c κs = let s = c .before .before .before .before in (s .pre .0 .red, s .pre .1 .1 .1)
 
 add-mask-field : tie.Need-add-mask-field
 add-mask-field c = omega arith
 
 shared-slice-read-mask-field-2 : tie.Need-shared-slice-read-mask-field-2
-shared-slice-read-mask-field-2 c = let s = c .before .before .before .before .before in omega (arith, three-bytes (s .args .in-bpp) (s .pre .1 .0))
+shared-slice-read-mask-field-2 c = let s = c .before .before .before .before .before .before in omega (arith, three-bytes (s .args .in-bpp) (s .pre .1 .0))
 
 mask-field-requires-2 : tie.Need-mask-field-requires-2
-mask-field-requires-2 c κs = c .before .before .before .before .before .pre .0 .green
+mask-field-requires-2 c κs = let s = c .before .before .before .before .before .before in (s .pre .0 .green, s .pre .1 .1 .1)
 
 add-mask-field-2 : tie.Need-add-mask-field-2
 add-mask-field-2 c = omega arith
 
 shared-slice-read-mask-field-3 : tie.Need-shared-slice-read-mask-field-3
-shared-slice-read-mask-field-3 c = let s = c .before .before .before .before .before .before .before in omega (arith, three-bytes (s .args .in-bpp) (s .pre .1 .0))
+shared-slice-read-mask-field-3 c = let s = c .before .before .before .before .before .before .before .before in omega (arith, three-bytes (s .args .in-bpp) (s .pre .1 .0))
 
 mask-field-requires-3 : tie.Need-mask-field-requires-3
-mask-field-requires-3 c κs = c .before .before .before .before .before .before .before .pre .0 .blue
+mask-field-requires-3 c κs = let s = c .before .before .before .before .before .before .before .before in (s .pre .0 .blue, s .pre .1 .1 .1)
 
 mask-field-requires-4 : tie.Need-mask-field-requires-4
-mask-field-requires-4 c κs = c .before .before .before .before .before .before .before .before .pre .0 .alpha
+mask-field-requires-4 c κs = let s = c .before .before .before .before .before .before .before .before .before in (s .pre .0 .alpha, s .pre .1 .1 .1)
 
 returns : tie.Need-returns
 returns c =
     let j = c .before .before .before .before .before .before .before in
-    let a = j .before .before .args in
+    let a = j .before .before .before .args in
     word-of (a .self) (a .in-bpp) (a .src .now) (a .x) (j .if1 .alpha)
     (c .before .before .before .before .before .mask-field .result) (c .before .before .before .mask-field2 .result) (c .before .mask-field3 .result) (c .mask-field4 .result)
     (⊎-elim (λ w. rw (eq-eqb (a .in-bpp) 4 (w .0 .taken)) (w .2)) (λ w. rw (ne-eqb (a .in-bpp) 4 (w .0 .left)) (w .1)) (j .if1 .came))
