@@ -123,19 +123,19 @@ pub fn mask_shift_len(mask: u32) -> MaskShiftLen
     MaskShiftLen { shift, len }
 }
 
-// A sample of 8 bits, fitted to n bits: to 9 up to 16 the lent widening table's number, to fewer its
-// top bits, to more the sample moved up with the sample below it.
+// A sample of 8 bits, fitted to n bits: its top bits; to 9 up to 16 bits the lent widening table's
+// number; to more, the sample moved up with the sample below it.
 pub fn quantise(table: &[u16], sample: u8, n: u32) -> u32
     requires { ⌜ Widens (now table) ⌝ }
     requires { ⌜ n ≤ 32 ⌝ }
     ensures { λ r. ⌜ r ≡ fit n sample ⌝ }
 {
     let s = sample as u32;
-    if n > 8 && n <= 16 {
-        return widened(table, s, n);
-    }
     if n <= 8 {
         return s >> (8 - n);
+    }
+    if n <= 16 {
+        return widened(table, s, n);
     }
     (s << (n - 8)) + s
 }

@@ -1,6 +1,6 @@
 -- Laws of stored rows: what each case of a row's packing asks and gives, and all rows of a plane.
 use mathlib.Core.Path.{_≡_, refl, sym, ap, _∙_}
-use mathlib.Core.Bool.{Bool, true}
+use mathlib.Core.Bool.{Bool, true, false, false≢true}
 use mathlib.Core.Logic.{_⊎_, inl, inr}
 use mathlib.Core.List.{List}
 use Prim.Native.Nat.{ℕ, _+_, _-_, _*_, _/_, _≤_, _<_}
@@ -13,9 +13,8 @@ use Rattle.rows.specs.declared.pack.RowPack.the-variants.{Bgra32, Bgr24,
 use Rattle.leaves.specs.Lists.{cat}
 use Rattle.leaves.specs.Put.{put}
 use Rattle.leaves.specs.Sizes.{rowStride, hasTable}
-use Rattle.leaves.specs.Widening.{Widens}
 use Rattle.rows.specs.Packing.{packed}
-use Rattle.rows.specs.StoredRows.{padded, cell24, cell32, maskCell, storedRow, packBits, packBytes, LayoutOk, PackOk, inMaskMode, rowOf, sourceRow, storedRows}
+use Rattle.rows.specs.StoredRows.{padded, cell24, cell32, maskCell, storedRow, packBits, packBytes, LayoutOk, PackOk, fieldsOf, FieldsOk, inMaskMode, rowOf, sourceRow, storedRows}
 use Rattle.leaves.proofs.ListLaws.{length-tab, length-cat}
 use Rattle.rows.proofs.PackLaws.{put-cell}
 use Rattle.rows.proofs.MaskCells.{all-put, length-maskCell, cells-fit}
@@ -44,13 +43,29 @@ indices-give p bpp w at row d x e h k =
     let f : length row ≡ w = (rw e at h) ∙ mul-one w in
     rw e (rw f at k)
 
+-- the layouts of masks
+pub masks-good : (p : RowPack) (n : ℕ) (bgr : Bool) (layout : MaskLayout) → p ≡ Masks n bgr layout → PackOk p → ((n ≡ 3) ⊎ (n ≡ 4)) × LayoutOk layout
+masks-good p n bgr layout e ok = rw e at ok
+
 -- what is asked in the case of masks
-pub masks-ask : (p : RowPack) (n : ℕ) (bgr : Bool) (layout : MaskLayout) (table : List ℕ) (w m at l : ℕ) → p ≡ Masks n bgr layout → PackOk p
-    → m ≡ w * packBytes p → at + rowStride w (packBits p) ≤ l → (inMaskMode p ≡ true → Widens table)
-    → LayoutOk layout × (((n ≡ 3) ⊎ (n ≡ 4)) × ((m ≡ w * n) × ((at + rowStride w (layout .bpp) ≤ l) × Widens table)))
-masks-ask p n bgr layout table w m at l e ok h k t =
-    let good : ((n ≡ 3) ⊎ (n ≡ 4)) × LayoutOk layout = rw e at ok in
-    (good .1, (good .0, (rw e at h, (rw e at k, t (ap inMaskMode e)))))
+pub masks-ask : (p : RowPack) (n : ℕ) (bgr : Bool) (layout : MaskLayout) (fields : List ℕ) (w m at l : ℕ) → p ≡ Masks n bgr layout → PackOk p
+    → m ≡ w * packBytes p → at + rowStride w (packBits p) ≤ l → FieldsOk p fields
+    → LayoutOk layout × (((n ≡ 3) ⊎ (n ≡ 4)) × ((m ≡ w * n) × ((at + rowStride w (layout .bpp) ≤ l) × (fields ≡ fieldsOf layout bgr))))
+masks-ask p n bgr layout fields w m at l e ok h k t =
+    let good = masks-good p n bgr layout e ok in
+    (good .1, (good .0, (rw e at h, (rw e at k, rw e at t))))
+
+-- what a packing reads is what the case that it is reads
+pub case-reads : (p q : RowPack) (fields : List ℕ) → p ≡ q → FieldsOk q fields → FieldsOk p fields
+case-reads p q fields e ok = rw e ok
+
+-- other rows read no fields
+pub no-fields : (p : RowPack) (fields : List ℕ) → inMaskMode p ≡ false → FieldsOk p fields
+no-fields (Bgra32 bgr) fields e = tt
+no-fields (Bgr24 bgr) fields e = tt
+no-fields Words16 fields e = tt
+no-fields (Indexed bpp) fields e = tt
+no-fields (Masks n bgr layout) fields e = absurd (false≢true (sym e))
 
 -- bytes that are no more than the length are padded to it
 length-padded : (n : ℕ) (bytes : List ℕ) → length bytes ≤ n → length (padded n bytes) ≡ n

@@ -2,6 +2,7 @@ pub mod AllRows
 pub mod Cells
 pub mod Charges
 pub mod Exchanges
+pub mod FieldLists
 pub mod FlagBytes
 pub mod FromBits
 pub mod MaskCells

@@ -13,7 +13,7 @@ use Rattle.rows.specs.declared.pack.RowPack.{RowPack}
 use Rattle.rows.specs.declared.pack.RowPack.the-variants.{Bgra32, Bgr24, Words16, Indexed, Masks}
 use Rattle.leaves.specs.Bytes.{le16, le32}
 use Rattle.leaves.specs.Fit.{fit}
-use Rattle.leaves.specs.Lists.{cat}
+use Rattle.leaves.specs.Lists.{cat, tab}
 use Rattle.leaves.specs.Sizes.{rowStride, hasTable}
 use Rattle.rows.specs.Packing.{packed}
 
@@ -49,6 +49,15 @@ cell32 bgr row x = blueIn 4 bgr row x ∷ greenIn 4 row x ∷ redIn 4 bgr row x 
 -- a sample fitted to its channel and moved to its place in the word
 unfoldable pub field : MaskShiftLen → ℕ → ℕ
 field channel sample = fit (channel .len) sample * 2 ^ channel .shift
+
+-- the channel of a pixel's byte 0, 1, 2 or 3: red, green, blue, alpha, with red and blue exchanged where blue comes first
+unfoldable pub channelAt : MaskLayout → Bool → ℕ → MaskShiftLen
+channelAt layout bgr c =
+    cond (eqb c 0) (cond bgr (layout .b) (layout .r)) (cond (eqb c 1) (layout .g) (cond (eqb c 2) (cond bgr (layout .r) (layout .b)) (layout .a)))
+
+-- the fields of all 256 samples of each byte
+unfoldable pub fieldsOf : MaskLayout → Bool → List ℕ
+fieldsOf layout bgr = cat (λ c. tab (field (channelAt layout bgr c)) 256) 4
 
 -- the word of a pixel in mask mode
 unfoldable pub maskWord : MaskLayout → ℕ → Bool → List ℕ → ℕ → ℕ
@@ -105,7 +114,15 @@ PackOk Words16 = Unit {0}
 PackOk (Indexed bpp) = hasTable bpp ≡ true
 PackOk (Masks n bgr layout) = ((n ≡ 3) ⊎ (n ≡ 4)) × LayoutOk layout
 
--- the packer that fits samples to masks, and so reads the widening table
+-- what a packer reads beside the source: in mask mode the fields of all samples
+abbrev pub FieldsOk : RowPack → List ℕ → Type 0
+FieldsOk (Bgra32 bgr) fields = Unit {0}
+FieldsOk (Bgr24 bgr) fields = Unit {0}
+FieldsOk Words16 fields = Unit {0}
+FieldsOk (Indexed bpp) fields = Unit {0}
+FieldsOk (Masks n bgr layout) fields = fields ≡ fieldsOf layout bgr
+
+-- whether a packer fits samples to masks
 abbrev pub inMaskMode : RowPack → Bool
 inMaskMode (Bgra32 bgr) = false
 inMaskMode (Bgr24 bgr) = false

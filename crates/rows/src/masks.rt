@@ -6,13 +6,13 @@ ghost use Prim.Native.Nat.{_+_, _*_, _/_, _<_, _≤_};
 ghost use lib.Dec.{eqb};
 ghost use lib.ListN.{length, getD};
 ghost use Rattle.leaves.specs.Bytes.{le16, le32};
-ghost use Rattle.leaves.specs.Lists.{cat};
+ghost use Rattle.leaves.specs.Lists.{cat, tab};
 ghost use Rattle.leaves.specs.Masks.{ShiftLen};
 ghost use Rattle.leaves.specs.Put.{put};
 ghost use Rattle.leaves.specs.Sizes.{rowStride};
 ghost use Rattle.leaves.specs.Widening.{Widens};
 ghost use Rattle.rows.specs.declared.pack.RowPack.the-variants.{Masks};
-ghost use Rattle.rows.specs.StoredRows.{field, maskWord, maskCell, storedRow, LayoutOk, ShortOk};
+ghost use Rattle.rows.specs.StoredRows.{field, fieldsOf, maskWord, maskCell, storedRow, LayoutOk, ShortOk};
 use crate::exchange::pixel_word;
 use leaves::bitfields::MaskShiftLen;
 use leaves::bitfields::mask_shift_len;
@@ -38,6 +38,28 @@ fn mask_field(table: &[u16], channel: MaskShiftLen, sample: u8) -> u32
     ensures { λ r. ⌜ r ≡ field channel sample ⌝ }
 {
     quantise(table, sample, channel.len) << (channel.shift % 32)
+}
+
+// The fields of a channel's 256 samples.
+fn put_channel(table: &[u16], channel: MaskShiftLen, fields: &mut [u32], at: usize)
+    requires { ⌜ channel .shift + channel .len ≤ 32 ⌝ }
+    requires { ⌜ at + 256 ≤ length (now fields) ⌝ }
+    requires { ⌜ Widens (now table) ⌝ }
+    ensures { λ _. ⌜ now (fields .exit) ≡ put (now (fields .entry)) at (tab (field channel) 256) ⌝ }
+{
+    let mut sample = 0;
+    while sample < 256 {
+        fields[at + sample] = mask_field(table, channel, sample as u8);
+        sample += 1;
+    }
+}
+
+// The field of a sample whose channel's fields begin at a place.
+fn field_of(fields: &[u32], first: usize, sample: u8) -> u32
+    requires { ⌜ first + 256 ≤ length (now fields) ⌝ }
+    ensures { λ r. ⌜ r ≡ getD (now (fields .entry)) (first + sample) 0 ⌝ }
+{
+    fields[first + sample as usize]
 }
 
 // A sample in the place of a channel of at most 8 bits. It has no branch and reads no table, and its
@@ -91,27 +113,41 @@ impl MaskLayout {
         MaskLayout { bpp, r, g, b, a }
     }
 
-    // The word of pixel x of a row with red first.
-    fn word(self, table: &[u16], src: &[u8], in_bpp: usize, x: usize) -> u32
+    // The fields of all samples, 256 for each byte of a pixel. Pixels are then packed without a test of
+    // their channels' lengths.
+    pub(crate) fn put_fields(self, bgr: bool, table: &[u16], fields: &mut [u32])
         requires { ⌜ LayoutOk self ⌝ }
+        requires { ⌜ length (now fields) ≡ 1024 ⌝ }
+        requires { ⌜ Widens (now table) ⌝ }
+        ensures { λ _. ⌜ now (fields .exit) ≡ fieldsOf self bgr ⌝ }
+    {
+        let layout = self.ordered(bgr);
+        put_channel(table, layout.r, fields, 0);
+        put_channel(table, layout.g, fields, 256);
+        put_channel(table, layout.b, fields, 512);
+        put_channel(table, layout.a, fields, 768);
+    }
+
+    // The word of pixel x of a row with red first.
+    fn word(self, fields: &[u32], src: &[u8], in_bpp: usize, x: usize) -> u32
         requires { ⌜ («in_bpp» ≡ 3) ⊎ («in_bpp» ≡ 4) ⌝ }
         requires { ⌜ x * «in_bpp» + «in_bpp» ≤ length (now src) ⌝ }
-        requires { ⌜ Widens (now table) ⌝ }
+        requires { ⌜ now fields ≡ fieldsOf self false ⌝ }
         ensures { λ r. ⌜ r ≡ maskWord self «in_bpp» false (now (src .entry)) x ⌝ }
     {
         let s = x * in_bpp;
         let alpha = if in_bpp == 4 { src[s + 3] } else { 255 };
-        let r = mask_field(table, self.r, src[s]);
-        let g = mask_field(table, self.g, src[s + 1]);
-        let b = mask_field(table, self.b, src[s + 2]);
-        let a = mask_field(table, self.a, alpha);
+        let r = field_of(fields, 0, src[s]);
+        let g = field_of(fields, 256, src[s + 1]);
+        let b = field_of(fields, 512, src[s + 2]);
+        let a = field_of(fields, 768, alpha);
         r | g | b | a
     }
 
     // The cells of a row with red first, for channels of any length.
     fn long_cells(
         self,
-        table: &[u16],
+        fields: &[u32],
         src: &[u8],
         in_bpp: usize,
         width: u32,
@@ -122,7 +158,7 @@ impl MaskLayout {
         requires { ⌜ («in_bpp» ≡ 3) ⊎ («in_bpp» ≡ 4) ⌝ }
         requires { ⌜ length (now src) ≡ width * «in_bpp» ⌝ }
         requires { ⌜ at + width * (self .bpp / 8) ≤ length (now dst) ⌝ }
-        requires { ⌜ Widens (now table) ⌝ }
+        requires { ⌜ now fields ≡ fieldsOf self false ⌝ }
         ensures { λ _. ⌜ now (dst .exit) ≡ put (now (dst .entry)) at (cat (maskCell self «in_bpp» false (now (src .entry))) width) ⌝ }
     {
         let w = width as usize;
@@ -130,7 +166,7 @@ impl MaskLayout {
         let size = bpp as usize / 8;
         let mut x = 0;
         while x < w {
-            let word = self.word(table, src, in_bpp, x);
+            let word = self.word(fields, src, in_bpp, x);
             put_cell(bpp, word, dst, at + x * size);
             x += 1;
         }
@@ -251,10 +287,10 @@ impl MaskLayout {
         self.short_cells32(src, width, dst, at);
     }
 
-    // Cells of 16 or 32 bits, fitted to masks; the widening table is lent.
+    // Cells of 16 or 32 bits, fitted to masks; the fields of all samples are lent.
     pub fn pack(
         self,
-        table: &[u16],
+        fields: &[u32],
         src: &[u8],
         in_bpp: usize,
         bgr: bool,
@@ -266,14 +302,14 @@ impl MaskLayout {
         requires { ⌜ («in_bpp» ≡ 3) ⊎ («in_bpp» ≡ 4) ⌝ }
         requires { ⌜ length (now src) ≡ width * «in_bpp» ⌝ }
         requires { ⌜ at + rowStride width (self .bpp) ≤ length (now dst) ⌝ }
-        requires { ⌜ Widens (now table) ⌝ }
+        requires { ⌜ now fields ≡ fieldsOf self bgr ⌝ }
         ensures { λ _. ⌜ now (dst .exit) ≡ put (now (dst .entry)) at (storedRow (Masks «in_bpp» bgr self) width (now (src .entry))) ⌝ }
     {
         let layout = self.ordered(bgr);
         if layout.is_short(in_bpp) {
             layout.short_cells(src, width, dst, at);
         } else {
-            layout.long_cells(table, src, in_bpp, width, dst, at);
+            layout.long_cells(fields, src, in_bpp, width, dst, at);
         }
         let filled = width as usize * (self.bpp as usize / 8);
         put_zeros(dst, at + filled, row_stride(width, self.bpp) - filled);

@@ -1,14 +1,12 @@
 // How a source row becomes a stored row (the Rust's encoder.rs, section on pixel packing). Each packer
 // writes one whole stored row, padding included, whatever the buffer held before.
 ghost use mathlib.Core.Path.{_≡_};
-ghost use mathlib.Core.Bool.{true};
 ghost use Prim.Native.Nat.{_+_, _*_, _≤_};
 ghost use lib.ListN.{length};
 ghost use Rattle.leaves.specs.Put.{put};
 ghost use Rattle.leaves.specs.Sizes.{rowStride};
-ghost use Rattle.leaves.specs.Widening.{Widens};
 ghost use Rattle.rows.specs.declared.pack.RowPack.the-variants.{Bgra32, Bgr24, Words16};
-ghost use Rattle.rows.specs.StoredRows.{storedRow, packBits, packBytes, PackOk, inMaskMode, storedRows};
+ghost use Rattle.rows.specs.StoredRows.{storedRow, packBits, packBytes, PackOk, FieldsOk, inMaskMode, storedRows};
 use crate::exchange::exchange24;
 use crate::exchange::exchange32;
 use crate::indices::pack_indices;
@@ -133,12 +131,34 @@ impl RowPack {
         }
     }
 
+    // Fills in what rows in mask mode read; others read nothing there.
+    fn put_fields(self, fields: &mut [u32])
+        requires { ⌜ PackOk self ⌝ }
+        requires { ⌜ length (now fields) ≡ 1024 ⌝ }
+        ensures { λ _. ⌜ FieldsOk self (now (fields .exit)) ⌝ }
+    {
+        match self {
+            RowPack::Bgra32 { bgr: _ } => {}
+            RowPack::Bgr24 { bgr: _ } => {}
+            RowPack::Words16 => {}
+            RowPack::Indexed { bpp: _ } => {}
+            RowPack::Masks {
+                in_bpp: _,
+                bgr,
+                layout,
+            } => {
+                let table = widening_table();
+                layout.put_fields(bgr, &table, fields);
+            }
+        }
+    }
+
     // Writes the stored row of a source row.
-    pub fn row(self, table: &[u16], src: &[u8], width: u32, dst: &mut [u8], at: usize)
+    pub fn row(self, fields: &[u32], src: &[u8], width: u32, dst: &mut [u8], at: usize)
         requires { ⌜ PackOk self ⌝ }
         requires { ⌜ length (now src) ≡ width * packBytes self ⌝ }
         requires { ⌜ at + rowStride width (packBits self) ≤ length (now dst) ⌝ }
-        requires { ⌜ (inMaskMode self ≡ true → Widens (now table)) ⌝ }
+        requires { ⌜ FieldsOk self (now fields) ⌝ }
         ensures { λ _. ⌜ now (dst .exit) ≡ put (now (dst .entry)) at (storedRow self width (now (src .entry))) ⌝ }
     {
         match self {
@@ -150,7 +170,7 @@ impl RowPack {
                 in_bpp,
                 bgr,
                 layout,
-            } => layout.pack(table, src, in_bpp, bgr, width, dst, at),
+            } => layout.pack(fields, src, in_bpp, bgr, width, dst, at),
         }
     }
 
@@ -158,7 +178,7 @@ impl RowPack {
     // starts at its own offset.
     fn pack_rows(
         self,
-        table: &[u16],
+        fields: &[u32],
         plane: &[u8],
         stride: usize,
         width: u32,
@@ -171,7 +191,7 @@ impl RowPack {
         requires { ⌜ width * packBytes self ≤ stride ⌝ }
         requires { ⌜ stride * height ≤ length (now plane) ⌝ }
         requires { ⌜ at + rowStride width (packBits self) * height ≤ length (now dst) ⌝ }
-        requires { ⌜ (inMaskMode self ≡ true → Widens (now table)) ⌝ }
+        requires { ⌜ FieldsOk self (now fields) ⌝ }
         ensures { λ _. ⌜ now (dst .exit) ≡ put (now (dst .entry)) at (storedRows self width height «top_down» (now (plane .entry)) stride) ⌝ }
     {
         let bytes = width as usize * self.source_bytes();
@@ -183,13 +203,13 @@ impl RowPack {
             let from = if top_down { y } else { h - 1 - y };
             let start = from * stride;
             let end = start + bytes;
-            self.row(table, &plane[start..end], width, dst, o);
+            self.row(fields, &plane[start..end], width, dst, o);
             o += stored;
             y += 1;
         }
     }
 
-    // Writes all stored rows of a plane. The widening table is made once for all of them, and in mask mode
+    // Writes all stored rows of a plane. The fields of all samples are made once for them, and in mask mode
     // only.
     pub fn pack_all(
         self,
@@ -208,11 +228,13 @@ impl RowPack {
         ensures { λ _. ⌜ now (dst .exit) ≡ put (now (dst .entry)) at (storedRows self width height «top_down» (now (plane .entry)) stride) ⌝ }
     {
         if self.in_mask_mode() {
-            let table = widening_table();
-            self.pack_rows(&table, plane, stride, width, height, top_down, dst, at);
+            let mut space = [0u32; 1024];
+            let fields: &mut [u32] = &mut space;
+            self.put_fields(fields);
+            self.pack_rows(fields, plane, stride, width, height, top_down, dst, at);
             return;
         }
-        let none = [0u16; 0];
+        let none = [0u32; 0];
         self.pack_rows(&none, plane, stride, width, height, top_down, dst, at);
     }
 }

@@ -31,7 +31,7 @@ word-requires : tie.Need-word-requires Inv-loop μ-loop
 word-requires c κs =
     let s = c .before .before .before .before .before in
     let n = s .args .in-bpp in
-    (s .pre .0, (s .pre .1 .0, (omega (arith, suc-mul (c .before .loop .x) n, mul-le-mul-right n (c .loop-test .taken)), s .pre .1 .1 .1 .1)))
+    (s .pre .1 .0, (omega (arith, suc-mul (c .before .loop .x) n, mul-le-mul-right n (c .loop-test .taken)), s .pre .1 .1 .1 .1))
 
 mul-put-cell : tie.Need-mul-put-cell Inv-loop μ-loop
 mul-put-cell c =

@@ -7,6 +7,7 @@ use lib.ListN.{length}
 use Rattle.leaves.specs.Lists.{cat}
 use Rattle.leaves.specs.Put.{put}
 use Rattle.rows.specs.StoredRows.{maskCell}
+use Rattle.rows.proofs.FieldLists.{fields-ordered}
 use Rattle.rows.proofs.MaskCells.{cells-fit, masks-end}
 use Rattle.rows.proofs.ShortFields.{layout-ordered, put-ordered, room-ordered}
 use Rattle.rows.proofs.masks.MaskLayout.pack.Statement.{statement}
@@ -34,7 +35,7 @@ long-cells-requires c κs =
     let a = s .args in
     let o = c .before .before .before .ordered in (
       layout-ordered (a .self) (o .result) (a .bgr) (o .ensures) (s .pre .0),
-      (s .pre .1 .0, (s .pre .1 .1 .0, (room-ordered (a .self) (o .result) (a .bgr) (o .ensures) (s .pre .0) (a .width) (a .at) (length (a .dst .now)) (s .pre .1 .1 .1 .0), s .pre .1 .1 .1 .1))),
+      (s .pre .1 .0, (s .pre .1 .1 .0, (room-ordered (a .self) (o .result) (a .bgr) (o .ensures) (s .pre .0) (a .width) (a .at) (length (a .dst .now)) (s .pre .1 .1 .1 .0), s .pre .1 .1 .1 .1 ∙ sym (fields-ordered (a .self) (o .result) (a .bgr) (o .ensures))))),
     )
 
 cast-filled : tie.Need-cast-filled

@@ -50,7 +50,7 @@ pack-requires c κs =
     let s = c .before .before .before .before .before .before .before in
     let a = s .args in
     let g = c .before .before .self4 .given in
-    masks-ask (a .self) (g .0 .0) (g .0 .1 .0) (g .0 .1 .1 .0) (a .table .now) (a .width) (length (a .src .now)) (a .at) (length (a .dst .now)) (g .1) (s .pre .0) (s .pre .1 .0) (s .pre .1 .1 .0) (s .pre .1 .1 .1)
+    masks-ask (a .self) (g .0 .0) (g .0 .1 .0) (g .0 .1 .1 .0) (a .fields .now) (a .width) (length (a .src .now)) (a .at) (length (a .dst .now)) (g .1) (s .pre .0) (s .pre .1 .0) (s .pre .1 .1 .0) (s .pre .1 .1 .1)
 
 same-length : tie.Need-same-length
 same-length c = omega arith
