@@ -11,7 +11,6 @@ use Rattle.leaves.specs.Lists.{tab, cat}
 use Rattle.leaves.specs.Put.{put}
 use Rattle.rows.specs.StoredRows.{field, channelAt, fieldsOf}
 use Rattle.leaves.proofs.ListLaws.{length-tab, getD-tab, length-cat, getD-cat}
-use Rattle.leaves.proofs.Puts.{put-nil}
 use Rattle.rows.proofs.MaskCells.{no-cells}
 use Rattle.rows.proofs.PackLaws.{put-cell}
 
@@ -59,11 +58,3 @@ fields-ordered l m bgr same = rw (same .1, same .2, same .3, same .4)
 pub field-read : (layout : MaskLayout) (fields : List ℕ) (c s p v : ℕ) → fields ≡ fieldsOf layout false → c < 4 → s < 256 → p ≡ c * 256 + s → v ≡ getD fields p 0
     → v ≡ field (channelAt layout false c) s
 field-read layout fields c s p v e h l place is = is ∙ rw (e, place) (field-at layout false c s h l)
-
--- a loop over the samples: before the first nothing is put, and after the last all are
-pub none-put : (f : ℕ → ℕ) (d : List ℕ) (at : ℕ) → d ≡ put d at (tab f 0)
-unfolding tab
-none-put f d at = sym (put-nil d at)
-
-pub samples-put : (f : ℕ → ℕ) (d e : List ℕ) (at i n : ℕ) → i ≡ n → e ≡ put d at (tab f i) → e ≡ put d at (tab f n)
-samples-put f d e at i n all is = is ∙ ap (λ (z : ℕ). put d at (tab f z)) all

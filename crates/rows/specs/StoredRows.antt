@@ -50,7 +50,7 @@ cell32 bgr row x = blueIn 4 bgr row x ∷ greenIn 4 row x ∷ redIn 4 bgr row x 
 unfoldable pub field : MaskShiftLen → ℕ → ℕ
 field channel sample = fit (channel .len) sample * 2 ^ channel .shift
 
--- the channel of a pixel's byte 0, 1, 2 or 3: red, green, blue, alpha, with red and blue exchanged where blue comes first
+-- what the packer of masks keeps beside the rows; no file is defined by it. The channel of a pixel's byte 0, 1, 2 or 3: red, green, blue, alpha, with red and blue exchanged where blue comes first
 unfoldable pub channelAt : MaskLayout → Bool → ℕ → MaskShiftLen
 channelAt layout bgr c =
     cond (eqb c 0) (cond bgr (layout .b) (layout .r)) (cond (eqb c 1) (layout .g) (cond (eqb c 2) (cond bgr (layout .r) (layout .b)) (layout .a)))

@@ -1,11 +1,11 @@
-use mathlib.Core.Path.{_≡_, refl}
-use Prim.Native.Nat.{_-_, _≤_}
+use mathlib.Core.Path.{_≡_, refl, sym, ap, _∙_}
+use Prim.Native.Nat.{ℕ, _-_, _≤_}
 use native.Mathlib.Omega.{arith}
 use lib.ListN.{length, length-set}
 use Rattle.leaves.specs.Lists.{tab}
 use Rattle.leaves.specs.Put.{put}
 use Rattle.rows.specs.StoredRows.{field}
-use Rattle.rows.proofs.FieldLists.{none-put, samples-put}
+use Rattle.leaves.proofs.Puts.{put-nil}
 use Rattle.rows.proofs.PackLaws.{put-byte}
 use Rattle.rows.proofs.masks.put_channel.Statement.{statement}
 use Rattle.rows.proofs.masks.put_channel.Tie as tie
@@ -18,7 +18,8 @@ abbrev μ-loop : tie.MeasureT-loop
 μ-loop table channel fields₀ at sample₀ fields sample = 256 - sample
 
 loop-holds : tie.Need-loop-holds Inv-loop μ-loop
-loop-holds c = let a = c .before .before .args in (omega arith, refl, none-put (field (a .channel)) (a .fields .now) (a .at))
+unfolding tab
+loop-holds c = let a = c .before .before .args in (omega arith, refl, sym (put-nil (a .fields .now) (a .at)))
 
 cast-mask-field : tie.Need-cast-mask-field Inv-loop μ-loop
 cast-mask-field c = omega arith
@@ -57,7 +58,8 @@ returns : tie.Need-returns Inv-loop μ-loop
 returns c =
     let a = c .before .before .before .before .args in
     let l = c .before .loop in
-    samples-put (field (a .channel)) (a .fields .now) (l .fields) (a .at) (l .sample) 256 (omega arith) (l .inv .2)
+    let all : l .sample ≡ 256 = omega arith in
+    l .inv .2 ∙ ap (λ (n : ℕ). put (a .fields .now) (a .at) (tab (field (a .channel)) n)) all
 
 pub put-channel-spec : {M : Type 1} → statement M
 put-channel-spec =
