@@ -952,7 +952,8 @@ class ReadingBack(Case):
             ("rgba", "Rgba", 32, ("--bitfields", f"32,{masks},0"), [cell[:3] + (0,) for cell in cells]),
             ("rgba", "Rgba", 32, ("--bitfields", f"32,{masks},0xFF000000"), cells),
             ("rgba", "Rgba", 16, ("--bitfields", "16,0x0F00,0x00F0,0x000F,0xF000"), [tuple(v >> 4 for v in cell) for cell in cells]),
-            ("rgba", "Rgba", 32, ("--bitfields", "32,0xFFFFFFFF,0,0,0"), [(cell[0] << 24 | cell[0], 0, 0, 0) for cell in cells]),
+            ("rgba", "Rgba", 32, ("--bitfields", "32,0xFFFFFFFF,0,0,0"), [(int.from_bytes(bytes(cell[:1] * 4), "big"), 0, 0, 0) for cell in cells]),
+            ("rgba", "Rgba", 32, ("--bitfields", "32,0x00FFFFFF,0xFF000000,0,0"), [(int.from_bytes(bytes(cell[:1] * 3), "big"), cell[1], 0, 0) for cell in cells]),
         ):
             with self.subTest(name=name, words=words):
                 self.done("--plane", plane, "--width", "3", "--height", "2", "--format", name, *words)

@@ -1,6 +1,6 @@
 //! One case on both sides.
 
-use crate::agreed::agreed;
+use crate::agreed::{Agreed, agreed};
 use crate::case::{Case, Plane};
 use crate::counts::{Answer, Counts};
 use crate::original::{self, Original, WRITTEN};
@@ -104,7 +104,7 @@ fn check_write(
     original: &Original<'_>,
     bound: Result<u64, u32>,
     notes: &mut Vec<String>,
-) -> (Answer, bool) {
+) -> (Answer, Agreed) {
     let mut file = original.encode();
     let len = bound.map_or(3 * case.slack, |b| case.offset + b as usize + case.slack);
     let mut buffer = pattern(len, case.salt);
@@ -112,7 +112,9 @@ fn check_write(
     if case.offset > 0 && case.offset <= len {
         check_append(original, &expected[..case.offset], file.as_ref().map(|f| f.1.as_slice()).map_err(|e| *e));
     }
-    let filled_in = file.as_mut().is_ok_and(|(format, file)| agreed(WRITTEN[*format as usize], file));
+    let made = file.as_mut().map_or(Agreed::default(), |(format, file)| {
+        agreed(WRITTEN[*format as usize], case.options.bitfields_masks, file)
+    });
     let (answer, expected_answer) = match &file {
         Ok((format, file)) => {
             expected[case.offset..case.offset + file.len()].copy_from_slice(file);
@@ -125,7 +127,7 @@ fn check_write(
     if let Some(at) = first_different(&expected, &buffer) {
         notes.push(format!("buffer byte {at}: original {:#04x}, port {:#04x}", expected[at], buffer[at]));
     }
-    (answer, filled_in)
+    (answer, made)
 }
 
 /// Both sides on one case; the inputs must come out unchanged.
@@ -143,9 +145,12 @@ pub fn compare(case: &Case, zeros: &[u8], report: &mut Report) -> Answer {
     let answer = if case.is_large() && bound.is_ok() {
         Answer::BoundOnly
     } else {
-        let (answer, filled_in) = check_write(case, zeros, &original, bound, &mut notes);
-        if filled_in {
+        let (answer, made) = check_write(case, zeros, &original, bound, &mut notes);
+        if made.image_size {
             report.counts.add_other("image sizes filled in");
+        }
+        if made.wide_channel {
+            report.counts.add_other("wide channels fitted anew");
         }
         answer
     };

@@ -136,7 +136,7 @@ fn compare_large(expected: &Expected, plane: &[u8], report: &mut Report) {
     let bound = original.bound().expect("14 is not compared here");
     let (answer, number, format, file) = match original.encode() {
         Ok((format, mut file)) => {
-            agreed(WRITTEN[format as usize], &mut file);
+            agreed(WRITTEN[format as usize], case.options.bitfields_masks, &mut file);
             (Answer::File(format), 0, format, file)
         }
         Err(number) => (Answer::Refused(number), number, 0, Vec::new()),

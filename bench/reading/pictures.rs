@@ -168,14 +168,14 @@ fn picture(random: &mut Random, format: u32, mode: Mode, width: u32, height: u32
 
 // What must be shown.
 
-/// A sample of 8 bits as n bits.
+/// A sample of 8 bits as n bits. Above 16 its bits are repeated from the top down (document 02, A.4).
 fn fit(sample: u8, n: u32) -> u32 {
-    let wide = u64::from(sample);
-    (match n {
+    let wide = u32::from(sample);
+    match n {
         0..=8 => wide >> (8 - n),
-        9..=15 => (wide << (n - 8)) + (wide >> (16 - n)),
-        _ => (wide << (n - 8)) + wide,
-    }) as u32
+        9..=16 => (wide << (n - 8)) + (wide >> (16 - n)),
+        _ => (0..n).fold(0, |bits, k| bits << 1 | wide >> (7 - k % 8) & 1),
+    }
 }
 
 fn shown_cell(picture: &Picture, cell: &[u8]) -> Vec<u32> {

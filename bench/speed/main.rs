@@ -187,7 +187,7 @@ fn measure(w: &Work, rounds: usize) -> (Vec<Times>, String, usize) {
     let mut appended = Vec::with_capacity(bound);
     let answer = port::encode_into(source, raw, lent, &mut out, 0);
     let format = differential_append(&picture, &options, &mut appended).unwrap();
-    agreed::agreed(format, &mut appended);
+    agreed::agreed(format, raw.bitfields_masks, &mut appended);
     assert_eq!(answer.refusal, 0);
     assert!(out[..answer.bytes as usize] == appended[..], "{}: the files differ", w.name);
     let len = appended.len();

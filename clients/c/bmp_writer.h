@@ -85,7 +85,8 @@ typedef struct {
     bool has_bitfields;          /* mask mode: the next two fields count [false] */
     bool has_calibrated;         /* calibrated colour: endpoints and gamma count [false] */
     uint16_t bitfields_bpp;      /* 16 or 32 bits a cell [0] */
-    uint32_t bitfields_masks[4]; /* red, green, blue, alpha; alpha may be 0 [0] */
+    uint32_t bitfields_masks[4]; /* red, green, blue, alpha; alpha may be 0. A sample's 8 bits, repeated from the top
+                                  * down, fill its mask: 255 is any mask's top value [0] */
     uint32_t rendering_intent;   /* bV5Intent of a file with a profile, any number [4, LCS_GM_IMAGES] */
     int32_t endpoints[9];        /* bV4Endpoints: red, green, blue, each x, y, z, as FXPT2DOT30 [0] */
     uint32_t gamma[3];           /* bV4GammaRed, Green, Blue, as 16.16 [0] */

@@ -84,7 +84,10 @@ class BmpError(ValueError):
 
 @dataclass
 class Bitfields:
-    """Explicit masks: depth 16 or 32; red, green, blue, alpha, of which alpha may be 0."""
+    """Explicit masks: depth 16 or 32; red, green, blue, alpha, of which alpha may be 0.
+
+    A sample's 8 bits, repeated from the top down, fill its mask: the top ones of a short mask, and 255 is any mask's top value.
+    """
     bpp: int
     masks: Sequence[int]
 

@@ -53,6 +53,11 @@ def files_below(folder):
     return {os.path.join(above, name) for above, folders, files in os.walk(folder) for name in folders + files}
 
 
+def repeated(sample, n):
+    """The 8 bits of a sample, from the top down, again and again until there are n."""
+    return int("0" + (format(sample, "08b") * 4)[:n], 2)
+
+
 def shown(file, width, height):
     """The indices that a plain 8-bit file holds, rows from the top."""
     start, step = int.from_bytes(file[10:14], "little"), (width + 3) // 4 * 4
@@ -135,6 +140,18 @@ class Files(Case):
                 bmp_writer.check_masks(*masks)
         with self.assertRaisesRegex(ValueError, r"^bpp: 65536 is not in 0 \.\. 65535$"):
             bmp_writer.check_masks(65536, 1, 2, 4)
+
+    def test_samples_fill_masks(self):
+        """A sample's bits are repeated from the top down until the mask is full, and so those of a channel beside it."""
+        plane = bytes(v for k in range(256) for v in (k, 255 - k, 0))
+        for ones in range(1, 33):
+            red, green = 2 ** ones - 1, 2 ** 32 - 2 ** ones
+            file, written = encode(plane, 256, 1, "Rgb24", options=EncodeOptions(bitfields=Bitfields(32, (red, green, 0, 0))))
+            fields = [(repeated(k, ones), repeated(255 - k, 32 - ones)) for k in range(256)]
+            self.assertEqual((written, fields[255][0], fields[0][0]), ("Bitfields", red, 0))
+            self.assertEqual(file[66:], b"".join((low + (high << ones)).to_bytes(4, "little") for low, high in fields))
+            cells = bmp_writer.read(file).cells.tolist()
+            self.assertEqual(list(zip(cells[0::4], cells[1::4])), fields)
 
     def test_profiles(self):
         file, written = encode(b"\0" * 3, 1, 1, "Rgb24", icc=b"abc", linked_icc=b"path")

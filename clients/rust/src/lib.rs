@@ -133,7 +133,8 @@ impl std::error::Error for BmpError {}
 
 pub type Result<T> = std::result::Result<T, BmpError>;
 
-/// Explicit masks: depth 16 or 32; the alpha mask may be 0.
+/// Explicit masks: depth 16 or 32; the alpha mask may be 0. A sample's 8 bits, repeated from the top down, fill its mask:
+/// the top ones of a short mask, and 255 is any mask's top value.
 #[derive(Clone, Copy, Debug, PartialEq, Eq)]
 pub struct BmpBitfields {
     pub bpp: u16,

@@ -46,7 +46,7 @@ none-fits : (m s : ℕ) → m ≡ 0 → s < 256 → fit (count m) s ≡ 0
 none-fits m s e h = ap (λ (z : ℕ). fit z s) (ap count e ∙ count-zero) ∙ lt-one (fit-lt 0 s h)
 
 -- a field is the fitted sample, moved up to its mask's lowest one; a zero mask's field is 0 wherever it is put
-field-is : (m s : ℕ) → s < 256 → field (channelOf m) s ≡ fit (count m) s * 2 ^ lowest m
+pub field-is : (m s : ℕ) → s < 256 → field (channelOf m) s ≡ fit (count m) s * 2 ^ lowest m
 unfolding field
 field-is m s h = go (eqb m 0) refl
   where
@@ -54,21 +54,21 @@ field-is m s h = go (eqb m 0) refl
     go true e = rw (none-fits m s (eqb-true m 0 e) h) (sym (zero-mul (2 ^ lowest m)))
     go false e = refl
 
--- a field has no bit outside its mask
-pub under-own : (m s : ℕ) → isOneRun m ≡ true → s < 256 → bitAnd (field (channelOf m) s) m ≡ field (channelOf m) s
-under-own m s o h =
-    let q : ℕ = fit (count m) s in
-    ap₂ bitAnd (field-is m s h ∙ sym (add-zero (q * 2 ^ lowest m))) (run-is m o ∙ sym (add-zero (run (lowest m) (count m))))
+-- a number of as many bits as the mask has ones, moved up to the lowest of them, has no bit outside the mask
+pub moved-under : (m q : ℕ) → isOneRun m ≡ true → q < 2 ^ count m → bitAnd (q * 2 ^ lowest m) m ≡ q * 2 ^ lowest m
+moved-under m q o h =
+    ap₂ bitAnd (sym (add-zero (q * 2 ^ lowest m))) (run-is m o ∙ sym (add-zero (run (lowest m) (count m))))
     ∙ and-block (lowest m) q (2 ^ count m - 1) 0 0 (pow-pos (lowest m)) (pow-pos (lowest m))
     ∙ add-zero (bitAnd q (2 ^ count m - 1) * 2 ^ lowest m)
-    ∙ ap (λ (z : ℕ). z * 2 ^ lowest m) (and-mask q (count m) ∙ mod-eq-of-lt (fit-lt (count m) s h))
-    ∙ sym (field-is m s h)
+    ∙ ap (λ (z : ℕ). z * 2 ^ lowest m) (and-mask q (count m) ∙ mod-eq-of-lt h)
 
--- so it has none of a mask that shares no bit with its own
-pub under-other : (m k s : ℕ) → isOneRun m ≡ true → bitAnd m k ≡ 0 → s < 256 → bitAnd (field (channelOf m) s) k ≡ 0
-under-other m k s o e h =
-    let p : ℕ = field (channelOf m) s in
-    ap (λ (z : ℕ). bitAnd z k) (sym (under-own m s o h)) ∙ and-assoc p m k ∙ ap (bitAnd p) e ∙ and-zero-r p
+-- so a field has none
+pub under-own : (m s : ℕ) → isOneRun m ≡ true → s < 256 → bitAnd (field (channelOf m) s) m ≡ field (channelOf m) s
+under-own m s o h = rw (field-is m s h) (moved-under m (fit (count m) s) o (fit-lt (count m) s h))
+
+-- what has no bit outside one mask has none under a mask that shares none with it
+pub under-other : (p m k : ℕ) → bitAnd p m ≡ p → bitAnd m k ≡ 0 → bitAnd p k ≡ 0
+under-other p m k own e = ap (λ (z : ℕ). bitAnd z k) (sym own) ∙ and-assoc p m k ∙ ap (bitAnd p) e ∙ and-zero-r p
 
 -- and is no larger than it
 pub field-le : (m s : ℕ) → isOneRun m ≡ true → s < 256 → field (channelOf m) s ≤ m
@@ -91,13 +91,13 @@ joined p zero = 0
 joined p (suc n) = bitOr (joined p n) (p n)
 
 -- none of them under a mask that has a bit of none
-none-under : (p : ℕ → ℕ) (m n : ℕ) → ((j : ℕ) → j < n → bitAnd (p j) m ≡ 0) → bitAnd (joined p n) m ≡ 0
+pub none-under : (p : ℕ → ℕ) (m n : ℕ) → ((j : ℕ) → j < n → bitAnd (p j) m ≡ 0) → bitAnd (joined p n) m ≡ 0
 unfolding joined
 none-under p m zero h = refl
 none-under p m (suc n) h = and-or (joined p n) (p n) m ∙ ap₂ bitOr (none-under p m n (λ j l. h j (omega arith))) (h n (omega arith))
 
 -- and one of them alone under a mask that has bits of it only
-one-under : (p : ℕ → ℕ) (m k n : ℕ) → k < n → bitAnd (p k) m ≡ p k → ((j : ℕ) → j < n → (j ≡ k → ⊥) → bitAnd (p j) m ≡ 0) → bitAnd (joined p n) m ≡ p k
+pub one-under : (p : ℕ → ℕ) (m k n : ℕ) → k < n → bitAnd (p k) m ≡ p k → ((j : ℕ) → j < n → (j ≡ k → ⊥) → bitAnd (p j) m ≡ 0) → bitAnd (joined p n) m ≡ p k
 unfolding joined
 one-under p m k zero l own other = absurd (not-suc-le-zero l)
 one-under p m k (suc n) l own other =
@@ -109,7 +109,7 @@ one-under p m k (suc n) l own other =
     go (inr r) before = ap₂ bitOr (before r) (other n (omega arith) (λ f. omega arith)) ∙ or-zero-r (p k)
 
 -- fields below 2^d make a word below it
-joined-lt : (p : ℕ → ℕ) (d n : ℕ) → ((j : ℕ) → j < n → p j < 2 ^ d) → joined p n < 2 ^ d
+pub joined-lt : (p : ℕ → ℕ) (d n : ℕ) → ((j : ℕ) → j < n → p j < 2 ^ d) → joined p n < 2 ^ d
 unfolding joined
 joined-lt p d zero h = pow-pos d
 joined-lt p d (suc n) h = or-lt d (joined p n) (p n) (joined-lt p d n (λ j l. h j (omega arith))) (h n (omega arith))
@@ -122,7 +122,7 @@ fieldAt masks samples k = field (channelOf (getD masks k 0)) (getD samples k 0)
 
 module _ (d : ℕ) (masks samples : List ℕ) (ok : MasksAccepted d masks) (bytes : (k : ℕ) → getD samples k 0 < 256) where
   -- masks at two places share no bit, in either order
-  share-none : (j k : ℕ) → j < 4 → k < 4 → (j ≡ k → ⊥) → bitAnd (getD masks j 0) (getD masks k 0) ≡ 0
+  pub share-none : (j k : ℕ) → j < 4 → k < 4 → (j ≡ k → ⊥) → bitAnd (getD masks j 0) (getD masks k 0) ≡ 0
   share-none j k a b n = go (ltb j k) refl
     where
       go : (t : Bool) → ltb j k ≡ t → bitAnd (getD masks j 0) (getD masks k 0) ≡ 0
@@ -134,7 +134,7 @@ module _ (d : ℕ) (masks samples : List ℕ) (ok : MasksAccepted d masks) (byte
   channel-shown k l =
       channel-of (getD masks k 0) (getD samples k 0) (joined (fieldAt masks samples) 4) (bytes k)
       (one-under (fieldAt masks samples) (getD masks k 0) k 4 l (under-own (getD masks k 0) (getD samples k 0) (ok .runs k l) (bytes k))
-      (λ j i n. under-other (getD masks j 0) (getD masks k 0) (getD samples j 0) (ok .runs j i) (share-none j k i l n) (bytes j)))
+      (λ j i n. under-other (fieldAt masks samples j) (getD masks j 0) (getD masks k 0) (under-own (getD masks j 0) (getD samples j 0) (ok .runs j i) (bytes j)) (share-none j k i l n)))
 
   -- the word has no bit above the depth
   pub word-lt : joined (fieldAt masks samples) 4 < 2 ^ d

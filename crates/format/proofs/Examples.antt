@@ -6,7 +6,7 @@ use lib.Count.{onesIn, trailingZeros}
 use lib.ListN.{length, replicate}
 use Rattle.leaves.specs.declared.encoder.EncodedBmpFormat.the-variants.{Rle8, Indexed8}
 use Rattle.leaves.specs.Bytes.{le16, le32}
-use Rattle.leaves.specs.Fit.{fit}
+use Rattle.leaves.specs.Fit.{fromTop, repeated, fit}
 use Rattle.leaves.specs.Lists.{tab, cat}
 use Rattle.leaves.specs.Masks.{count, lowest, isOneRun, sharesBit, maskRows, bitfieldsRows}
 use Rattle.leaves.specs.Refusals.{firstNumber, dimensionRows, paletteRows, modeRows, planeRows}
@@ -41,7 +41,7 @@ found (stride width depth result) = rowStride width depth ∷ []
 found (masks depth four result) = firstNumber (bitfieldsRows depth four) ∷ []
 found (file input bound size result) = boundOf maxFile input ∷ fileSize maxFile input ∷ fileOf maxFile input
 
--- what document 01 prints, with M12's image size of document 02
+-- what document 01 prints, with M9's third number and M12's image size of document 02
 unfoldable pub printed : Example → List ℕ
 printed (row depth indices result) = result
 printed (sample bits value result) = result ∷ []
@@ -74,7 +74,7 @@ marked =
     -- M9
     ∷ sample 5 255 31
     ∷ sample 10 255 1023
-    ∷ sample 17 255 130815
+    ∷ sample 17 255 131071
     -- M10
     ∷ stride 32 1 4
     ∷ stride 33 1 8
@@ -88,7 +88,7 @@ marked =
 
 -- M1 to M12
 pub marked-hold : map found marked ≡ map printed marked
-unfolding found printed marked m12File rowCodes codes cells scan bytes packedByte digits packed fit rowStride bitfieldsRows maskRows isOneRun count lowest onesIn trailingZeros sharesBit fileOf headOf fileSize pixels streamUsed streamOf stream streamRow budget rawLen depthOf headLen headRest tableEntries writtenPaletteEntries paletteEntryCount clrUsed colourTable tableEntry wantsRle modeOf tailIn compressionOf rowsCompression imageSize fileHeader infoHeader le16 le32 cat tab boundOf plainSize
+unfolding found printed marked m12File rowCodes codes cells scan bytes packedByte digits packed fit repeated fromTop rowStride bitfieldsRows maskRows isOneRun count lowest onesIn trailingZeros sharesBit fileOf headOf fileSize pixels streamUsed streamOf stream streamRow budget rawLen depthOf headLen headRest tableEntries writtenPaletteEntries paletteEntryCount clrUsed colourTable tableEntry wantsRle modeOf tailIn compressionOf rowsCompression imageSize fileHeader infoHeader le16 le32 cat tab boundOf plainSize
 marked-hold = refl
 
 -- M12's file is a stream

@@ -1,5 +1,5 @@
--- Files that the original encoder wrote, with the image size filled in where document 02 asks for it, by computation. Each pins what no reader looks
--- at; its comment says what.
+-- Files that the original encoder wrote, with the differences that document 02 asks for, by computation. Each pins what no reader looks at, or where
+-- the two differ; its comment says what.
 -- Absent palettes and profiles have stray bytes in their slices, which are ignored.
 use mathlib.Core.Path.{_≡_, refl}
 use mathlib.Core.Bool.{true, false}
@@ -12,7 +12,7 @@ use Rattle.leaves.specs.declared.encoder.EncodedBmpFormat.{EncodedBmpFormat}
 use Rattle.leaves.specs.declared.image.BmpPixelFormat.the-variants as source
 use Rattle.leaves.specs.declared.encoder.EncodedBmpFormat.the-variants as written
 use Rattle.leaves.specs.Bytes.{le16, le32}
-use Rattle.leaves.specs.Fit.{fit}
+use Rattle.leaves.specs.Fit.{fromTop, repeated, fit}
 use Rattle.leaves.specs.Lists.{tab, cat}
 use Rattle.leaves.specs.Masks.{count, lowest}
 use Rattle.leaves.specs.Options.{defaults}
@@ -23,6 +23,8 @@ use Rattle.format.specs.Headers.{dwords, fileHeader, infoHeader, v4Field
 use Rattle.format.specs.Input.{Input}
 use Rattle.format.specs.File.{maxFile, streamUsed, storedRowsOf, pixels, tableEntry, colourTable, compressionOf, imageSize, headOf, fileSize, fileOf, plainSize, boundOf, formatOf}
 use Rattle.format.specs.Layout.{modeOf, tailIn, depthOf, channelsOf, packOf, tableEntries, maskTail, headRest, headLen, rawLen, rowsCompression, rowsFormat, wantsRle}
+use Rattle.format.specs.Readers.{Reader, older, newer, shows, wordAt, dwordAt, fieldsOf, tableCount, knowsDepth, knowsCompression, pairs, rowLength, cellWord, channel, maskCell as shownCell, plainCell, paletteOf, picture, headNeeds, pixelNeeds, body, readFields, read}
+use Rattle.format.specs.Shown.{rgb}
 use Rattle.format.proofs.ExampleInputs.{oneRow, withMinimal, withIntent, withMasks, withCalibrated, call}
 
 -- a call, and what is made of it
@@ -34,6 +36,14 @@ pub record Written : Type 0 where
 
 abbrev pub wrote : Input → EncodedBmpFormat → ℕ → List ℕ → Written
 wrote input format bound bytes = record { input = input; format = format; bound = bound; bytes = bytes }
+
+-- one pixel in a red channel of 17 bits and a green one of 15
+abbrev wideRed : Input
+wideRed = call (oneRow source.Rgb24 1 3 false false false) (withMasks 32 (0xFFFF8000 ∷ 0x00007FFF ∷ 0 ∷ 0 ∷ []) false) (255 ∷ 128 ∷ 30 ∷ []) [] [] []
+
+abbrev wideFile : List ℕ
+wideFile =
+    0x42 ∷ 0x4D ∷ 0x46 ∷ 0x00 ∷ 0x00 ∷ 0x00 ∷ 0x00 ∷ 0x00 ∷ 0x00 ∷ 0x00 ∷ 0x42 ∷ 0x00 ∷ 0x00 ∷ 0x00 ∷ 0x28 ∷ 0x00 ∷ 0x00 ∷ 0x00 ∷ 0x01 ∷ 0x00 ∷ 0x00 ∷ 0x00 ∷ 0x01 ∷ 0x00 ∷ 0x00 ∷ 0x00 ∷ 0x01 ∷ 0x00 ∷ 0x20 ∷ 0x00 ∷ 0x03 ∷ 0x00 ∷ 0x00 ∷ 0x00 ∷ 0x04 ∷ 0x00 ∷ 0x00 ∷ 0x00 ∷ 0x13 ∷ 0x0B ∷ 0x00 ∷ 0x00 ∷ 0x13 ∷ 0x0B ∷ 0x00 ∷ 0x00 ∷ 0x00 ∷ 0x00 ∷ 0x00 ∷ 0x00 ∷ 0x00 ∷ 0x00 ∷ 0x00 ∷ 0x00 ∷ 0x00 ∷ 0x80 ∷ 0xFF ∷ 0xFF ∷ 0xFF ∷ 0x7F ∷ 0x00 ∷ 0x00 ∷ 0x00 ∷ 0x00 ∷ 0x00 ∷ 0x00 ∷ 0x40 ∷ 0xC0 ∷ 0xFF ∷ 0xFF ∷ []
 
 abbrev pub files : List Written
 files =
@@ -74,6 +84,8 @@ files =
     (call (oneRow source.Rgba 1 4 false false false) (withMasks 16 (0xF800 ∷ 0x07E0 ∷ 0x001F ∷ 0 ∷ []) false) (10 ∷ 20 ∷ 30 ∷ 40 ∷ []) [] [] [])
     written.Bitfields 70
     (0x42 ∷ 0x4D ∷ 0x46 ∷ 0x00 ∷ 0x00 ∷ 0x00 ∷ 0x00 ∷ 0x00 ∷ 0x00 ∷ 0x00 ∷ 0x42 ∷ 0x00 ∷ 0x00 ∷ 0x00 ∷ 0x28 ∷ 0x00 ∷ 0x00 ∷ 0x00 ∷ 0x01 ∷ 0x00 ∷ 0x00 ∷ 0x00 ∷ 0x01 ∷ 0x00 ∷ 0x00 ∷ 0x00 ∷ 0x01 ∷ 0x00 ∷ 0x10 ∷ 0x00 ∷ 0x03 ∷ 0x00 ∷ 0x00 ∷ 0x00 ∷ 0x04 ∷ 0x00 ∷ 0x00 ∷ 0x00 ∷ 0x13 ∷ 0x0B ∷ 0x00 ∷ 0x00 ∷ 0x13 ∷ 0x0B ∷ 0x00 ∷ 0x00 ∷ 0x00 ∷ 0x00 ∷ 0x00 ∷ 0x00 ∷ 0x00 ∷ 0x00 ∷ 0x00 ∷ 0x00 ∷ 0x00 ∷ 0xF8 ∷ 0x00 ∷ 0x00 ∷ 0xE0 ∷ 0x07 ∷ 0x00 ∷ 0x00 ∷ 0x1F ∷ 0x00 ∷ 0x00 ∷ 0x00 ∷ 0xA3 ∷ 0x08 ∷ 0x00 ∷ 0x00 ∷ [])
+    -- a wide red channel beside a narrow green one: the original's last two bytes are 7F FF
+    ∷ wrote wideRed written.Bitfields 70 wideFile
     -- top-down, with a minimal palette of 2: the image size 0 and the format of rows that are not coded
     ∷ wrote
     (call (oneRow source.Pal8 9 9 true false false) (withMinimal true true) (replicate 9 7) (1 ∷ 2 ∷ 3 ∷ 4 ∷ 5 ∷ 6 ∷ 7 ∷ 8 ∷ []) [] [])
@@ -87,5 +99,11 @@ found input = wrote input (formatOf maxFile input) (boundOf maxFile input) (file
 
 -- format, bound and file are these
 pub files-hold : map (λ (e : Written). found (e .input)) files ≡ files
-unfolding found fileOf headOf fileSize pixels storedRowsOf packOf channelsOf count lowest onesIn trailingZeros storedRows storedRow padded cell24 cell32 maskCell maskWord field fit packed packedByte digits streamUsed rawLen depthOf headLen headRest maskTail v4Fields v5Fields longs dwords tableEntries writtenPaletteEntries paletteEntryCount clrUsed colourTable tableEntry rowStride wantsRle modeOf tailIn compressionOf rowsCompression imageSize fileHeader infoHeader le16 le32 cat tab boundOf plainSize formatOf rowsFormat
+unfolding found fileOf headOf fileSize pixels storedRowsOf packOf channelsOf count lowest onesIn trailingZeros storedRows storedRow padded cell24 cell32 maskCell maskWord field fit repeated fromTop packed packedByte digits streamUsed rawLen depthOf headLen headRest maskTail v4Fields v5Fields longs dwords tableEntries writtenPaletteEntries paletteEntryCount clrUsed colourTable tableEntry rowStride wantsRle modeOf tailIn compressionOf rowsCompression imageSize fileHeader infoHeader le16 le32 cat tab boundOf plainSize formatOf rowsFormat
 files-hold = refl
+
+-- what both readers show of the wide red channel: "255 to 17 bits is 131,071"; a mask of 0 shows 0
+pub wide-shown : (reader : Reader) → read reader wideFile ≡ shows (record { width = 1; height = 1; palette = []; rows = (rgb 131071 16448 0 ∷ []) ∷ [] })
+unfolding read readFields fieldsOf wordAt dwordAt knowsDepth knowsCompression pairs headNeeds tableCount body pixelNeeds rowLength picture paletteOf plainCell shownCell cellWord channel trailingZeros tab
+wide-shown older = refl
+wide-shown newer = refl

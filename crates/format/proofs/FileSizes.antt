@@ -45,19 +45,19 @@ channel-within m h r = go (eqb m 0) refl
         let p : 0 < m = omega (arith, eqb-false m 0 e) in
         omega (arith, ends-within m p h, len-run m p h r)
 
+pub mask-within : (d : ℕ) (masks : List ℕ) → MasksAccepted d masks → (k : ℕ) → k < 4 → channelOf (getD masks k 0) .shift + channelOf (getD masks k 0) .len ≤ 32
+mask-within d masks a k h = channel-within (getD masks k 0) (mask-lt d masks a k h) (a .runs k h)
+
 layout-ok : (d : ℕ) (masks : List ℕ) → MasksAccepted d masks → LayoutOk (channelsOf d masks)
 unfolding channelsOf
 layout-ok d masks a =
     record {
       depth = a .depths;
-      red = within 0 (omega arith);
-      green = within 1 (omega arith);
-      blue = within 2 (omega arith);
-      alpha = within 3 (omega arith);
+      red = mask-within d masks a 0 (omega arith);
+      green = mask-within d masks a 1 (omega arith);
+      blue = mask-within d masks a 2 (omega arith);
+      alpha = mask-within d masks a 3 (omega arith);
     }
-  where
-    within : (k : ℕ) → k < 4 → channelOf (getD masks k 0) .shift + channelOf (getD masks k 0) .len ≤ 32
-    within k h = channel-within (getD masks k 0) (mask-lt d masks a k h) (a .runs k h)
 
 -- pixels of the four sources that mask mode takes
 sample-bytes : (f : BmpPixelFormat) → maskSource f ≡ false → (bytesPerPixel f ≡ 3) ⊎ (bytesPerPixel f ≡ 4)

@@ -1,4 +1,4 @@
--- What document 02, A.2, changes of document 01's file: the four bytes of the image size, in RLE files and mask files alone.
+-- What document 02, A.2, changes of a file: the four bytes of the image size, in RLE files and mask files alone.
 use mathlib.Core.Path.{_≡_, refl, sym, ap, _∙_}
 use mathlib.Core.Bool.{Bool, true, false, cond, false≢true}
 use mathlib.Core.List.{List}
@@ -32,7 +32,7 @@ use Rattle.format.proofs.Modes.{given-mode, mask-mode, coded-cases, Pla
 abbrev pub earlierSize : Input → ℕ
 earlierSize i = cond (eqb (headerSize (modeIn i) (i .source .format)) 40) 0 (rawBytes i)
 
--- document 01's file
+-- the file with it
 unfoldable pub earlierFile : ℕ → Input → List ℕ
 earlierFile limit i = fileWith limit i (earlierSize i)
 
@@ -127,7 +127,7 @@ module _ (limit : ℕ) (i : Input) (c : 0 < compressionOf limit i) (h : headerSi
 
 -- ---- the theorem
 
--- whatever the call, the file is document 01's with its image size filled in
+-- whatever the call, the file is the one with document 01's image size, filled in
 pub filled : (limit : ℕ) (i : Input) → fileOf limit i ≡ put (earlierFile limit i) 34 (le32 (imageSize limit i))
 unfolding fileOf earlierFile
 filled limit i = sym (put-image limit i (earlierSize i) (imageSize limit i))

@@ -62,11 +62,11 @@ word32 f rest w n x v all e h l =
 -- ---- the word
 
 -- the samples of pixel x, in the masks' order
-abbrev samplesIn : ℕ → Bool → List ℕ → ℕ → List ℕ
+abbrev pub samplesIn : ℕ → Bool → List ℕ → ℕ → List ℕ
 samplesIn n bgr row x = redIn n bgr row x ∷ greenIn n row x ∷ blueIn n bgr row x ∷ alphaIn n row x ∷ []
 
 -- the word that is written has the fields of the four
-word-is : (d n : ℕ) (bgr : Bool) (masks row : List ℕ) (x : ℕ)
+pub word-is : (d n : ℕ) (bgr : Bool) (masks row : List ℕ) (x : ℕ)
     → maskWord (channelsOf d masks) n bgr row x ≡ joined (fieldAt masks (samplesIn n bgr row x)) 4
 unfolding channelsOf maskWord joined
 word-is d n bgr masks row x = refl
@@ -80,7 +80,7 @@ alpha-lt n row x h = go (eqb n 4)
     go false = omega arith
 
 -- and so is each sample
-sample-lt : (n : ℕ) (bgr : Bool) (row : List ℕ) (x : ℕ) → ((k : ℕ) → getD row k 0 < 256) → (k : ℕ) → getD (samplesIn n bgr row x) k 0 < 256
+pub sample-lt : (n : ℕ) (bgr : Bool) (row : List ℕ) (x : ℕ) → ((k : ℕ) → getD row k 0 < 256) → (k : ℕ) → getD (samplesIn n bgr row x) k 0 < 256
 sample-lt n bgr row x h zero = h (x * n + cond bgr 2 0)
 sample-lt n bgr row x h (suc zero) = h (x * n + 1)
 sample-lt n bgr row x h (suc (suc zero)) = h (x * n + cond bgr 0 2)

@@ -1,9 +1,11 @@
 pub mod BitLaws
 pub mod FirstOf
+pub mod FitValues
 pub mod Fitting
 pub mod ListLaws
 pub mod Overlap
 pub mod Puts
+pub mod Repeating
 pub mod Runs
 pub mod TableCounts
 pub mod TableRule

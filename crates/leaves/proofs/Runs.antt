@@ -2,7 +2,7 @@
 use mathlib.Core.Path.{_≡_, refl, sym, ap, ap₂, _∙_, subst}
 use mathlib.Core.Bool.{Bool, true, false, true≢false}
 use Prim.Native.Nat.{ℕ, zero, suc, _+_, _-_, _*_, _/_, _%_, _^_, _≤_, _<_, min}
-use native.Mathlib.Nat.{add-zero, suc-add, zero-add, mul-one, mul-assoc, mul-comm, zero-mul, div-one, div-div-eq-div-mul, pow-succ', mod-eq-of-lt, mul-le-mul-right, not-suc-le-zero}
+use native.Mathlib.Nat.{lt-of-lt-of-le, add-zero, suc-add, zero-add, mul-one, mul-assoc, mul-comm, zero-mul, div-one, div-div-eq-div-mul, pow-succ', mod-eq-of-lt, mul-le-mul-right, not-suc-le-zero}
 use native.Mathlib.Numerals.{add-one}
 use native.Mathlib.Omega.{arith}
 use borrow.Author.Tests.{ltb-true, ltb-false, eqb-true, eqb-false, eq-eqb, ne-eqb}
@@ -56,9 +56,10 @@ lowest-run s n h =
     let e : s + suc (31 - s) ≡ 32 = omega arith in
     rw e at (trailing-shifted s (31 - s) (2 ^ suc n - 1) (ones-odd n))
 
-pub count-le : (m : ℕ) → m < 2 ^ 32 → count m ≤ 32
+-- a number of k bits has at most k ones
+pub count-le : (k m : ℕ) → k ≤ 32 → m < 2 ^ k → count m ≤ k
 unfolding count
-count-le m h = rw (ones-in 32 m h) (ones-le 32 m h)
+count-le k m u h = rw (ones-in 32 m (lt-of-lt-of-le h (pow-mono u))) (ones-le k m h)
 
 pub count-zero : count 0 ≡ 0
 unfolding count onesIn
@@ -161,7 +162,7 @@ contiguous m h = go (isOneRun m) refl
         record { from = s; count = 32; is = trailing-whole 32 m ∙ ap (λ (z : ℕ). z * 2 ^ s) f }
 
     go : (b : Bool) → isOneRun m ≡ b → eqb (bitAnd n ((n + 1) % 2 ^ 32)) 0 ≡ b
-    go true e = eq-eqb (bitAnd n ((n + 1) % 2 ^ 32)) 0 (of-ones (count m) (of-run (run-is m e)) (count-le m h))
+    go true e = eq-eqb (bitAnd n ((n + 1) % 2 ^ 32)) 0 (of-ones (count m) (of-run (run-is m e)) (count-le 32 m (omega arith) h))
     go false e = ne-eqb (bitAnd n ((n + 1) % 2 ^ 32)) 0 (λ z. true≢false (sym (is-one-run m h (back z (ltb n 4294967295) refl)) ∙ e))
 
 -- ---- the ends of a mask

@@ -124,7 +124,7 @@ pub fn mask_shift_len(mask: u32) -> MaskShiftLen
 }
 
 // A sample of 8 bits, fitted to n bits: its top bits; to 9 up to 16 bits the lent widening table's
-// number; to more, the sample moved up with the sample below it.
+// number; to more, its bits repeated from the top down, which are the top of the sample four times.
 pub fn quantise(table: &[u16], sample: u8, n: u32) -> u32
     requires { ⌜ Widens (now table) ⌝ }
     requires { ⌜ n ≤ 32 ⌝ }
@@ -137,5 +137,5 @@ pub fn quantise(table: &[u16], sample: u8, n: u32) -> u32
     if n <= 16 {
         return widened(table, s, n);
     }
-    (s << (n - 8)) + s
+    (s * 0x0101_0101) >> (32 - n)
 }

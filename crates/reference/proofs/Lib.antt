@@ -20,6 +20,7 @@ pub mod SizeLaws
 pub mod PlanSizes
 pub mod WriteLaws
 pub mod FileLaws
+pub mod WideChannels
 pub mod Bridge
 pub mod Theorem
 pub mod Witness

@@ -1,17 +1,17 @@
 -- A sample fitted to a channel, the place of a channel's mask, and a field of a word.
-use mathlib.Core.Path.{_≡_, refl, sym, ap, _∙_}
+use mathlib.Core.Path.{_≡_, refl, sym, ap, _∙_, subst}
 use mathlib.Core.Bool.{Bool, true, false, cond}
 use Prim.Native.Nat.{ℕ, _+_, _-_, _*_, _/_, _%_, _^_, _≤_, _<_}
-use native.Mathlib.Nat.{mod-eq-of-lt, div-one}
+use native.Mathlib.Nat.{lt-of-lt-of-le, mod-eq-of-lt, div-one}
 use native.Mathlib.Omega.{arith}
 use borrow.Author.Tests.{ltb-true, ltb-false, leb-true, leb-false, eqb-true, eqb-false, le-leb, lt-leb}
+use lib.Arith.{digits-lt, digits-div}
 use lib.Bits.{bitAnd, bitOr, or-shifted, or-zero-r, and-mask}
 use lib.Count.{leadingZeros, trailingZeros, leading-le}
 use lib.Dec.{ltb, leb, eqb}
-use lib.Pow.{pow-lt, pow-pos, shl-exact}
+use lib.Pow.{pow-lt, pow-pos, pow-add, pow-mono, shr-lt, shl-exact}
 use Rattle.leaves.specs.declared.bitfields.MaskShiftLen.{MaskShiftLen}
 use Rattle.leaves.specs.Masks.{isOneRun, lowest, count}
-use Rattle.leaves.proofs.Fitting.{joined-lt, top-lt, whole-lt}
 use Rattle.leaves.proofs.Runs.{count-zero, ends-within, len-run}
 use Rattle.reference.specs.Rust.{done, _>>=_, u32, sub, shl, shr}
 use Rattle.reference.specs.Bitfields.{maskShiftLen, quantise}
@@ -29,6 +29,19 @@ mask-is n h = go (leb 32 n) refl
         let l : n < 32 = leb-false 32 n e in
         let p : 1 * 2 ^ n % 2 ^ 32 ≡ 2 ^ n = ap (λ (z : ℕ). z % 2 ^ 32) (omega arith) ∙ mod-eq-of-lt (pow-lt {i = n} {j = 32} l) in
         rw (shl-is 32 1 n l, p, sub-is (2 ^ n) 1 (pow-pos n))
+
+-- a sample moved up by n - 8 bits, with fewer than that below it, is in n bits
+joined-lt : (n sample low : ℕ) → 8 ≤ n → sample < 256 → low < 2 ^ (n - 8) → sample * 2 ^ (n - 8) + low < 2 ^ n
+joined-lt n sample low h s l =
+    let p : 8 + (n - 8) ≡ n = omega arith in
+    subst (λ (z : ℕ). sample * 2 ^ (n - 8) + low < z) (sym (pow-add 2 8 (n - 8)) ∙ ap (λ (z : ℕ). 2 ^ z) p) (digits-lt {m = 256} s l)
+
+-- the freed bits' fill, for 9 to 15 bits and for more
+top-lt : (n sample : ℕ) → 8 ≤ n → n ≤ 16 → sample < 256 → sample / 2 ^ (8 - (n - 8)) < 2 ^ (n - 8)
+top-lt n sample h k s = shr-lt (n - 8) (8 - (n - 8)) (lt-of-lt-of-le s (pow-mono {i = 8} (omega arith)))
+
+whole-lt : (n sample : ℕ) → 16 ≤ n → sample < 256 → sample < 2 ^ (n - 8)
+whole-lt n sample h s = lt-of-lt-of-le s (pow-mono {i = 8} (omega arith))
 
 -- a sample moved up to n bits, with the freed bits filled
 wide-is : (s n low : ℕ) → s < 256 → 8 < n → n ≤ 32 → low < 2 ^ (n - 8)
@@ -67,6 +80,18 @@ quantise-is s n h u = go (eqb n 8) (ltb n 8) refl refl
             let k : n ≤ 15 = omega (arith, leb-false 8 (n - 8) c) in
             rw (c, sub-is 8 (n - 8) (omega arith), shr-is 32 s (8 - (n - 8)) (omega arith), le-leb n 15 k)
             (wide-is s n (s / 2 ^ (8 - (n - 8))) h l u (top-lt n s (omega (arith, l)) (omega arith) h))
+
+-- over 16 bits the whole sample stands above and below
+over-16 : (n sample : ℕ) → 16 < n → originalFit n sample ≡ sample * 2 ^ (n - 8) + sample
+unfolding originalFit
+over-16 n sample h = rw (lt-leb n 8 (omega arith), lt-leb n 15 (omega arith))
+
+pub wide-lt : (n sample : ℕ) → 16 < n → sample < 256 → originalFit n sample < 2 ^ n
+wide-lt n sample h s = rw (over-16 n sample h) (joined-lt n sample sample (omega arith) s (whole-lt n sample (omega arith) s))
+
+-- so its top 8 bits are the sample
+pub wide-top : (n sample : ℕ) → 16 < n → sample < 256 → originalFit n sample / 2 ^ (n - 8) ≡ sample
+wide-top n sample h s = rw (over-16 n sample h) (digits-div sample (whole-lt n sample (omega arith) s))
 
 -- mask_shift_len of one run: its place and its count of ones
 pub shift-len-is : (mask : ℕ) → mask < 2 ^ 32 → isOneRun mask ≡ true → maskShiftLen mask ≡ done (cond (eqb mask 0) 0 (lowest mask), count mask)

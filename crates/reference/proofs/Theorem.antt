@@ -18,9 +18,9 @@ use Rattle.format.proofs.Acceptance.{Checked, checked, plan-passed}
 use Rattle.format.proofs.Passing.{first-parts, and-false}
 use Rattle.reference.specs.Rust.{done, _>>=_, rleOverLimit}
 use Rattle.reference.specs.Plan.{Plan, maxFile, wrote, refused, appended, newPlan, writeInto, encodeSource}
-use Rattle.reference.specs.Compared.{sourceOf, optionsOf, outcome, answer, agreed, agreedFile, agreedBehind, Typed, Domain, sizeBound, encodeBehind, fileRows, SameAnswers}
+use Rattle.reference.specs.Compared.{sourceOf, optionsOf, outcome, answer, agreed, sizeOf, agreedFile, agreedBehind, Typed, Domain, sizeBound, encodeBehind, fileRows, SameAnswers}
 use Rattle.reference.proofs.Original.{originalFile}
-use Rattle.reference.proofs.Bridge.{bridge}
+use Rattle.reference.proofs.Bridge.{bridge, same-length}
 use Rattle.reference.proofs.PackingLaws.{packOf}
 use Rattle.reference.proofs.NewRows.{rowsFor}
 use Rattle.reference.proofs.NewPlan.{planIn, quads, new-plan}
@@ -96,6 +96,11 @@ module _ (i : Input) (ok : Typed i) (domain : Domain i) where
   unfolding fileRows
   passed-plan p = first-parts (planRows maxFile i) ((streamOverBudget maxFile i, StreamOverBudget) ∷ []) p .0
 
+  size-follows : Follows (fileRows i) (encodeSource (sourceOf i) (optionsOf i) >>= sizeOf) (done (length (fileOf maxFile i), formatOf maxFile i))
+  size-follows =
+      follow.to (fileRows i) _ _ _ (follow.on (fileRows i) _ _ sizeOf own-follows)
+      (λ p. ap (λ n. done (n, formatOf maxFile i)) (same-length i ok (plan-passed i (passed-plan p) .0) maxFile))
+
   file-follows : Follows (fileRows i) (encodeSource (sourceOf i) (optionsOf i) >>= agreedFile i) (done (fileOf maxFile i, formatOf maxFile i))
   file-follows =
       follow.to (fileRows i) _ _ _ (follow.on (fileRows i) _ _ (agreedFile i) own-follows) (λ p. ap (λ x. done (x, formatOf maxFile i)) (document-is (passed-plan p)))
@@ -104,11 +109,12 @@ module _ (i : Input) (ok : Typed i) (domain : Domain i) where
   pub own-answer : outcome (encodeSource (sourceOf i) (optionsOf i)) ≡ answer (firstOf (fileRows i)) (originalFile maxFile i, formatOf maxFile i)
   own-answer = follow.answered (fileRows i) _ _ own-follows
 
-  -- bound, file, format and refusal
+  -- bound, length, file, format and refusal
   pub same-answers : SameAnswers i
   same-answers =
       record {
         bound = follow.answered (planRows maxFile i) _ _ bound-follows;
+        size = follow.answered (fileRows i) _ _ size-follows;
         file = follow.answered (fileRows i) _ _ file-follows;
         behind = λ out room. follow.answered (planRows maxFile i) _ _ (behind-follows out room);
       }

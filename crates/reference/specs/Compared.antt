@@ -1,15 +1,19 @@
 -- What the original is handed for a call, and which of its answers is which of document 01's.
 use Prim.Native.Nat.{ℕ, _+_, _-_, _*_, _/_, _^_, _<_}
-use mathlib.Core.Bool.{Bool, true, false, cond}
+use mathlib.Core.Bool.{Bool, true, false, cond, _&&_, _||_}
 use mathlib.Core.Path.{_≡_}
 use mathlib.Core.List.{List, [], _∷_, _++_}
+use lib.Bits.{bitAnd}
+use lib.Dec.{ltb}
 use lib.ListN.{length, getD, take, drop}
 use Rattle.leaves.specs.declared.error.Check.{Check}
 use Rattle.leaves.specs.declared.error.Check.the-variants as check
 use Rattle.leaves.specs.declared.encoder.EncodedBmpFormat.{EncodedBmpFormat}
 use Rattle.leaves.specs.declared.encoder.EncodedBmpFormat.the-variants.{Rgb32, Rgb24, Rgb16Rgb, Rgb16Bitfields, Indexed8, Indexed4, Indexed2, Rle8, Rle4, Indexed1, Bitfields, AlphaBitfields}
 use Rattle.leaves.specs.Bytes.{le32}
+use Rattle.leaves.specs.Fit.{repeated}
 use Rattle.leaves.specs.Lists.{tab}
+use Rattle.leaves.specs.Masks.{count, lowest}
 use Rattle.leaves.specs.Put.{put}
 use Rattle.leaves.specs.Refusals.{numberOf, firstOf, firstNumber}
 use Rattle.format.specs.File as document
@@ -116,6 +120,38 @@ answer (check.Refused why) a = refuses (numberOf why) (rustKind why)
 
 -- ---- the agreed differences
 
+-- "Mask files with such a channel are compared with this definition; narrower channels still with the Rust" (document 02, A.4): a mask of more than 16 ones
+abbrev pub isWide : ℕ → Bool
+isWide mask = ltb 16 (count mask)
+
+-- such a channel of a word, fitted anew from its top 8 bits, which are the sample; every bit outside the mask stays
+unfoldable pub refitted : ℕ → ℕ → ℕ
+refitted mask word =
+    cond (isWide mask) (word - bitAnd word mask + repeated (count mask) (bitAnd word mask / 2 ^ (lowest mask + (count mask - 8))) * 2 ^ lowest mask) word
+
+-- a word of the original's pixels
+unfoldable pub refittedWord : List ℕ → ℕ → ℕ
+refittedWord masks word = refitted (getD masks 3 0) (refitted (getD masks 2 0) (refitted (getD masks 1 0) (refitted (getD masks 0 0) word)))
+
+-- and all of them, one behind another: only words of 32 bits have room for such a channel
+unfoldable pub refittedWords : List ℕ → List ℕ → List ℕ
+refittedWords masks (a ∷ b ∷ c ∷ d ∷ rest) = le32 (refittedWord masks (a + 256 * b + 65536 * (c + 256 * d))) ++ refittedWords masks rest
+refittedWords masks [] = []
+refittedWords masks (a ∷ []) = a ∷ []
+refittedWords masks (a ∷ b ∷ []) = a ∷ b ∷ []
+refittedWords masks (a ∷ b ∷ c ∷ []) = a ∷ b ∷ c ∷ []
+
+-- whether one of the four is wide
+abbrev pub anyWide : List ℕ → Bool
+anyWide masks = isWide (getD masks 0 0) || isWide (getD masks 1 0) || isWide (getD masks 2 0) || isWide (getD masks 3 0)
+
+-- a mask file with its wide channels fitted anew; its pixels begin at bfOffBits
+unfoldable pub withWideChannels : Input → List ℕ → List ℕ
+withWideChannels i file =
+    cond (i .options .«has_bitfields» && anyWide (i .options .bitfields .masks))
+    (take (dwordAt file 10) file ++ refittedWords (i .options .bitfields .masks) (drop (dwordAt file 10) file))
+    file
+
 -- "RLE files and mask files" (document 02, A.2)
 abbrev pub isRleOrMasks : EncodedBmpFormat → Bool
 isRleOrMasks Rgb32 = false
@@ -135,9 +171,17 @@ isRleOrMasks AlphaBitfields = true
 unfoldable pub withImageSize : List ℕ → List ℕ
 withImageSize file = put file 34 (le32 (length file - dwordAt file 10))
 
--- "Byte equality is with the Rust's file after those four bytes are filled in": what the original's own file, of this format, becomes here
+-- "Byte equality is with the Rust's file after those four bytes are filled in"
+abbrev pub filledIn : EncodedBmpFormat → List ℕ → List ℕ
+filledIn format file = cond (isRleOrMasks format) (withImageSize file) file
+
+-- what the original's own file, of this format, becomes here
 unfoldable pub agreed : Input → List ℕ → EncodedBmpFormat → List ℕ
-agreed i file format = cond (isRleOrMasks format) (withImageSize file) file
+agreed i file format = filledIn format (withWideChannels i file)
+
+-- the length of the original's own file, before any difference
+abbrev pub sizeOf : List ℕ × EncodedBmpFormat → Run (ℕ × EncodedBmpFormat)
+sizeOf (file, format) = done (length file, format)
 
 -- of what `encode_source` returns
 abbrev pub agreedFile : Input → List ℕ × EncodedBmpFormat → Run (List ℕ × EncodedBmpFormat)
@@ -177,10 +221,11 @@ encodeBehind src options out = newPlan src options >>= λ plan. writeInto plan o
 unfoldable pub fileRows : Input → List (Bool × Refusal)
 fileRows i = planRows document.maxFile i ++ ((streamOverBudget document.maxFile i, StreamOverBudget) ∷ [])
 
--- Bound, file (with the agreed differences), format and refusal, with its kind, are the document's, and nothing panics. Where `out` has room for the bound of a plan in a Vec, the file stands
+-- Bound, length, file (with the agreed differences), format and refusal, with its kind, are the document's, and nothing panics. Where `out` has room for the bound of a plan in a Vec, the file stands
 -- behind what `out` held, and the one Err that `write_into` returns leaves `out` as it was; where there is no plan, no room is asked for.
 pub record SameAnswers (i : Input) : Type 0 where
   pub bound : outcome (sizeBound (sourceOf i) (optionsOf i)) ≡ answer (firstOf (planRows document.maxFile i)) (document.boundOf document.maxFile i)
+  pub size : outcome (encodeSource (sourceOf i) (optionsOf i) >>= sizeOf) ≡ answer (firstOf (fileRows i)) (length (document.fileOf document.maxFile i), document.formatOf document.maxFile i)
   pub file : outcome (encodeSource (sourceOf i) (optionsOf i) >>= agreedFile i) ≡ answer (firstOf (fileRows i)) (document.fileOf document.maxFile i, document.formatOf document.maxFile i)
   pub behind : (out : List ℕ) → (firstOf (planRows document.maxFile i) ≡ check.Passed → length out + document.boundOf document.maxFile i < 2 ^ 63)
       → outcome (encodeBehind (sourceOf i) (optionsOf i) out >>= agreedBehind i out)
