@@ -5,7 +5,6 @@ use mathlib.Core.Logic.{_⊎_, inl, inr}
 use mathlib.Core.List.{List, [], _++_, append-nil}
 use Prim.Native.Nat.{ℕ, zero, suc, _+_, _-_, _*_, _/_, _^_, _<_}
 use native.Mathlib.Omega.{arith}
-use borrow.Author.Tests.{ltb-true}
 use lib.Dec.{eqb}
 use lib.ListN.{length, getD, take, drop, length-append, take-append-drop}
 use lib.Seq.{take-at, drop-at}
@@ -39,7 +38,7 @@ use Rattle.reference.specs.Compared.{isWide, refittedWord, refittedWords
 use Rattle.reference.proofs.Original.{originalWord, originalCell, originalRow, rowIn, originalRows, originalHead, originalFile}
 use Rattle.reference.proofs.PlanSizes.{head-small}
 use Rattle.reference.proofs.SourceLaws.{row-small}
-use Rattle.reference.proofs.WideChannels.{word-refitted, original-small, none-refitted, first-word, cat-refitted, all-refitted, length-refitted}
+use Rattle.reference.proofs.WideChannels.{wide-ones, word-refitted, original-small, none-refitted, first-word, cat-refitted, all-refitted, length-refitted}
 
 -- ---- rows of words
 
@@ -128,7 +127,7 @@ wide-depth : (d : ℕ) (masks : List ℕ) → MasksAccepted d masks → (k : ℕ
 wide-depth d masks ok k l e = go (ok .depths)
   where
     go : (d ≡ 16) ⊎ (d ≡ 32) → d ≡ 32
-    go (inl f) = absurd (omega (arith, count-le 16 (getD masks k 0) (omega arith) (subst (λ (z : ℕ). getD masks k 0 < 2 ^ z) f (ok .inside k l)), ltb-true 16 (count (getD masks k 0)) e))
+    go (inl f) = absurd (omega (arith, count-le 16 (getD masks k 0) (omega arith) (subst (λ (z : ℕ). getD masks k 0 < 2 ^ z) f (ok .inside k l)), wide-ones (getD masks k 0) e))
     go (inr f) = f
 
 -- one of four

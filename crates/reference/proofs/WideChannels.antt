@@ -30,6 +30,13 @@ use Rattle.reference.proofs.QuantiseLaws.{wide-lt, wide-top}
 
 -- ---- one channel
 
+-- a wide mask has more than 16 ones, and every other at most 16
+pub wide-ones : (mask : ℕ) → isWide mask ≡ true → 16 < count mask
+wide-ones mask e = omega (arith, ltb-true _ (count mask) e)
+
+narrow-ones : (mask : ℕ) → isWide mask ≡ false → count mask ≤ 16
+narrow-ones mask e = omega (arith, ltb-false _ (count mask) e)
+
 -- up to 16 bits both fit alike
 fit-same : (n sample : ℕ) → n ≤ 16 → originalFit n sample ≡ fit n sample
 unfolding originalFit fit
@@ -58,7 +65,7 @@ module _ (mask sample : ℕ) (one : isOneRun mask ≡ true) (ends : channelOf ma
   wide-field : isWide mask ≡ true → originalField (channelOf mask) sample ≡ originalFit (count mask) sample * 2 ^ lowest mask
   unfolding originalField
   wide-field e =
-      let n : 16 < count mask = ltb-true 16 (count mask) e in
+      let n : 16 < count mask = wide-ones mask e in
       let z : eqb mask 0 ≡ false = some-ones mask (omega (arith, n)) in
       rw (lt-ltb 0 (count mask) (omega (arith, n)), z)
       (shl-exact (count mask) (lowest mask) 32 (wide-lt (count mask) sample n byte) (omega (arith, rw z at ends)))
@@ -68,8 +75,8 @@ module _ (mask sample : ℕ) (one : isOneRun mask ≡ true) (ends : channelOf ma
   original-own = go (isWide mask) refl
     where
       go : (b : Bool) → isWide mask ≡ b → bitAnd (originalField (channelOf mask) sample) mask ≡ originalField (channelOf mask) sample
-      go true e = rw (wide-field e) (moved-under mask (originalFit (count mask) sample) one (wide-lt (count mask) sample (ltb-true 16 (count mask) e) byte))
-      go false e = rw (field-same (channelOf mask) sample (ltb-false 16 (count mask) e) byte ends) (under-own mask sample one byte)
+      go true e = rw (wide-field e) (moved-under mask (originalFit (count mask) sample) one (wide-lt (count mask) sample (wide-ones mask e) byte))
+      go false e = rw (field-same (channelOf mask) sample (narrow-ones mask e) byte ends) (under-own mask sample one byte)
 
   -- fitted anew it is the document's field
   pub refitted-is : (word : ℕ) → bitAnd word mask ≡ originalField (channelOf mask) sample
@@ -81,7 +88,7 @@ module _ (mask sample : ℕ) (one : isOneRun mask ≡ true) (ends : channelOf ma
           → cond b (word - bitAnd word mask + repeated (count mask) (bitAnd word mask / 2 ^ (lowest mask + (count mask - 8))) * 2 ^ lowest mask) word
           ≡ word - originalField (channelOf mask) sample + field (channelOf mask) sample
       go true e =
-          let n : 16 < count mask = ltb-true 16 (count mask) e in
+          let n : 16 < count mask = wide-ones mask e in
           let q : ℕ = originalFit (count mask) sample in
           let top : originalField (channelOf mask) sample / 2 ^ (lowest mask + (count mask - 8)) ≡ sample =
           ap (λ (z : ℕ). z / 2 ^ (lowest mask + (count mask - 8))) (wide-field e)
@@ -93,7 +100,7 @@ module _ (mask sample : ℕ) (one : isOneRun mask ≡ true) (ends : channelOf ma
           (ap (λ (z : ℕ). word - originalField (channelOf mask) sample + z)
           (ap (λ (z : ℕ). z * 2 ^ lowest mask) (sym (fit-over-16 (count mask) sample n)) ∙ sym (field-is mask sample byte)))
       go false e =
-          let same = field-same (channelOf mask) sample (ltb-false 16 (count mask) e) byte ends in
+          let same = field-same (channelOf mask) sample (narrow-ones mask e) byte ends in
           omega (arith, same, own, and-le-l word mask)
 
 -- ---- the word of a pixel
@@ -189,7 +196,7 @@ module _ (d : ℕ) (masks samples : List ℕ) (ok : MasksAccepted d masks) (byte
   narrow-kept k l e =
       alone (mixed 4) (mixed-own 4) k l
       ∙ ap (λ (b : Bool). cond b (fieldAt masks samples k) (originalAt k)) (lt-ltb k 4 l)
-      ∙ sym (field-same (channelOf (maskAt k)) (getD samples k 0) (ltb-false 16 (count (maskAt k)) e) (bytes k) (mask-within d masks ok k l))
+      ∙ sym (field-same (channelOf (maskAt k)) (getD samples k 0) (narrow-ones (maskAt k) e) (bytes k) (mask-within d masks ok k l))
       ∙ sym (alone (mixed 0) (mixed-own 0) k l ∙ ap (λ (b : Bool). cond b (fieldAt masks samples k) (originalAt k)) (le-ltb k 0 (omega arith)))
 
 -- ---- words one behind another
