@@ -17,7 +17,7 @@ fitted =
     ∷ (16, 255, 65535)
     -- "255 to 17 bits is 131,071"
     ∷ (17, 255, 131071)
-    -- from the top down: the ones of 1 stand at the end of each eight, and no bit of the third is left
+    -- from the top down: 00000001 00000001 0
     ∷ (17, 1, 514)
     ∷ (24, 129, 8487297)
     ∷ (25, 129, 16974595)

@@ -1,5 +1,5 @@
 -- Laws of `fit`.
-use mathlib.Core.Path.{_≡_, refl, sym, ap, ap₂, _∙_}
+use mathlib.Core.Path.{_≡_, refl, sym, ap, _∙_}
 use mathlib.Core.Bool.{Bool, true, false, cond}
 use Prim.Native.Nat.{ℕ, _+_, _-_, _*_, _/_, _%_, _^_, _<_, _≤_}
 use native.Mathlib.Nat.{lt-of-lt-of-le, div-one, zero-div}
@@ -7,19 +7,19 @@ use native.Mathlib.Omega.{arith}
 use borrow.Author.Tests.{leb-true, leb-false, le-leb}
 use lib.Arith.{digits-div}
 use lib.Dec.{leb}
-use lib.Pow.{pow-pos, pow-mono, shl-exact, ones-split, ones-lt}
+use lib.Pow.{pow-mono, shl-exact, ones-split, ones-lt}
 use mir.Syntax.{w32}
 use mir.Val.{Fits}
 use Rattle.leaves.specs.Fit.{sampleBit, repeated, fit}
 use Rattle.leaves.proofs.Repeating.{repeated-bit, repeated-only, repeated-lt, repeated-first, repeated-again, repeated-shr, repeated-product}
 
--- document 01's number for 9 to 16 bits has the sample's bits repeated
-joined : (n sample : ℕ) → 8 ≤ n → n ≤ 16 → sample < 256 → sample * 2 ^ (n - 8) + sample / 2 ^ (8 - (n - 8)) ≡ repeated n sample
-joined n sample h k s =
+-- document 01's formula for 9 to 16 bits repeats the sample's bits too
+formula-repeated : (n sample : ℕ) → 8 ≤ n → n ≤ 16 → sample < 256 → sample * 2 ^ (n - 8) + sample / 2 ^ (8 - (n - 8)) ≡ repeated n sample
+formula-repeated n sample h k s =
     let p : 8 + (n - 8) ≡ n = omega arith in
     ap (λ (z : ℕ). sample * 2 ^ (n - 8) + z) (sym (repeated-first (n - 8) sample (omega arith) s)) ∙ sym (repeated-again (n - 8) sample s) ∙ ap (λ (z : ℕ). repeated z sample) p
 
--- so a fitted sample has, whatever the width
+-- so a sample is fitted by repeating its bits, whatever the width
 pub fit-repeated : (n sample : ℕ) → sample < 256 → fit n sample ≡ repeated n sample
 unfolding fit
 fit-repeated n sample s = go (leb n 8) (leb n 15) (leb n 16) refl refl refl
@@ -28,10 +28,10 @@ fit-repeated n sample s = go (leb n 8) (leb n 15) (leb n 16) refl refl refl
         → cond a (sample / 2 ^ (8 - n)) (cond b (sample * 2 ^ (n - 8) + sample / 2 ^ (8 - (n - 8))) (cond c (sample * 2 ^ (n - 8) + sample) (repeated n sample)))
         ≡ repeated n sample
     go true b c e f g = sym (repeated-first n sample (leb-true n 8 e) s)
-    go false true c e f g = joined n sample (omega (arith, leb-false n 8 e)) (omega (arith, leb-true n 15 f)) s
+    go false true c e f g = formula-repeated n sample (omega (arith, leb-false n 8 e)) (omega (arith, leb-true n 15 f)) s
     go false false true e f g =
         let z : 8 - (n - 8) ≡ 0 = omega (arith, leb-false n 15 f, leb-true n 16 g) in
-        ap (λ (x : ℕ). sample * 2 ^ (n - 8) + x) (sym (ap (λ (x : ℕ). sample / 2 ^ x) z ∙ div-one sample)) ∙ joined n sample (omega (arith, leb-false n 8 e)) (leb-true n 16 g) s
+        ap (λ (x : ℕ). sample * 2 ^ (n - 8) + x) (sym (ap (λ (x : ℕ). sample / 2 ^ x) z ∙ div-one sample)) ∙ formula-repeated n sample (omega (arith, leb-false n 8 e)) (leb-true n 16 g) s
     go false false false e f g = refl
 
 -- n bits suffice
@@ -51,7 +51,7 @@ narrow n sample h = rw (le-leb n 8 h)
 pub middle : (n sample : ℕ) → 8 < n → n ≤ 16 → sample < 256 → sample * 2 ^ (n - 8) % 4294967296 + sample / 2 ^ (16 - n) ≡ fit n sample
 middle n sample h k s =
     let q : 16 - n ≡ 8 - (n - 8) = omega arith in
-    rw (shl-exact 8 (n - 8) 32 s (omega arith), q) (joined n sample (omega arith) k s ∙ sym (fit-repeated n sample s))
+    rw (shl-exact 8 (n - 8) 32 s (omega arith), q) (formula-repeated n sample (omega arith) k s ∙ sym (fit-repeated n sample s))
 
 -- the sample four times, and the top n bits of that
 pub wide : (n sample : ℕ) → n ≤ 32 → sample < 256 → sample * 16843009 / 2 ^ (32 - n) ≡ fit n sample

@@ -12,7 +12,8 @@ fromTop bit (suc n) = fromTop bit n * 2 + bit n
 abbrev pub sampleBit : ℕ → ℕ → ℕ
 sampleBit sample k = sample / 2 ^ (7 - k) % 2
 
--- document 02, A.4: "For more than 16 bits the sample's bits are repeated from the top down until n bits are full"
+-- document 02, A.4: "For more than 16 bits the sample's bits are repeated from the top down until n bits are full":
+-- bit k of the n, counted from the top, is bit k mod 8 of the sample
 unfoldable pub repeated : ℕ → ℕ → ℕ
 repeated n sample = fromTop (λ k. sampleBit sample (k % 8)) n
 

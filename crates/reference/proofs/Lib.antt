@@ -21,6 +21,7 @@ pub mod PlanSizes
 pub mod WriteLaws
 pub mod FileLaws
 pub mod WideChannels
+pub mod WideRows
 pub mod Bridge
 pub mod Theorem
 pub mod Witness

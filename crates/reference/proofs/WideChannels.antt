@@ -175,7 +175,7 @@ module _ (d : ℕ) (masks samples : List ℕ) (ok : MasksAccepted d masks) (byte
           go true e = e ∙ sym (lt-ltb j (suc k) (omega (arith, ltb-true j k e)))
           go false e = e ∙ sym (le-ltb j (suc k) (omega (arith, ltb-false j k e, n)))
 
-  -- its word has no bit above the depth
+  -- the original's word has no bit above the depth
   pub original-small : joined originalAt 4 < 2 ^ d
   original-small =
       joined-lt originalAt d 4
