@@ -85,6 +85,7 @@ fn workloads() -> Vec<Work> {
         let masks = |bpp, m| Chosen { masks: Some((bpp, m)), ..plain };
         all.push(work("Rgba, masks 5-6-5", 0, width, 200, Cells::Random, masks(16, [0xF800, 0x7E0, 0x1F, 0])));
         all.push(work("Rgba, masks 10-10-10-2", 0, width, 200, Cells::Random, masks(32, [0x3FF00000, 0xFFC00, 0x3FF, 0xC0000000])));
+        all.push(work("Rgba, masks 24-8", 0, width, 200, Cells::Random, masks(32, [0xFFFFFF00, 0xFF, 0, 0])));
     }
     all.push(work("Pal8 surface, minimal palette", PAL8, 200, 200, Cells::Surface, Chosen { minimal: true, ..plain }));
     all.push(work("Rgb24, calibrated", 1, 200, 200, Cells::Random, Chosen { calibrated: true, ..plain }));
