@@ -70,10 +70,6 @@ under-own m s o h = rw (field-is m s h) (moved-under m (fit (count m) s) o (fit-
 pub under-other : (p m k : ℕ) → bitAnd p m ≡ p → bitAnd m k ≡ 0 → bitAnd p k ≡ 0
 under-other p m k own e = ap (λ (z : ℕ). bitAnd z k) (sym own) ∙ and-assoc p m k ∙ ap (bitAnd p) e ∙ and-zero-r p
 
--- and is no larger than it
-pub field-le : (m s : ℕ) → isOneRun m ≡ true → s < 256 → field (channelOf m) s ≤ m
-field-le m s o h = subst (λ (z : ℕ). z ≤ m) (under-own m s o h) (and-le-r (field (channelOf m) s) m)
-
 -- what a reader shows of a word that has this field under the mask
 pub channel-of : (m s v : ℕ) → s < 256 → bitAnd v m ≡ field (channelOf m) s → channel m v ≡ fit (onesIn 32 m) s
 unfolding channel count lowest
@@ -97,7 +93,7 @@ none-under p m zero h = refl
 none-under p m (suc n) h = and-or (joined p n) (p n) m ∙ ap₂ bitOr (none-under p m n (λ j l. h j (omega arith))) (h n (omega arith))
 
 -- and one of them alone under a mask that has bits of it only
-pub one-under : (p : ℕ → ℕ) (m k n : ℕ) → k < n → bitAnd (p k) m ≡ p k → ((j : ℕ) → j < n → (j ≡ k → ⊥) → bitAnd (p j) m ≡ 0) → bitAnd (joined p n) m ≡ p k
+one-under : (p : ℕ → ℕ) (m k n : ℕ) → k < n → bitAnd (p k) m ≡ p k → ((j : ℕ) → j < n → (j ≡ k → ⊥) → bitAnd (p j) m ≡ 0) → bitAnd (joined p n) m ≡ p k
 unfolding joined
 one-under p m k zero l own other = absurd (not-suc-le-zero l)
 one-under p m k (suc n) l own other =
@@ -109,33 +105,52 @@ one-under p m k (suc n) l own other =
     go (inr r) before = ap₂ bitOr (before r) (other n (omega arith) (λ f. omega arith)) ∙ or-zero-r (p k)
 
 -- fields below 2^d make a word below it
-pub joined-lt : (p : ℕ → ℕ) (d n : ℕ) → ((j : ℕ) → j < n → p j < 2 ^ d) → joined p n < 2 ^ d
+joined-lt : (p : ℕ → ℕ) (d n : ℕ) → ((j : ℕ) → j < n → p j < 2 ^ d) → joined p n < 2 ^ d
 unfolding joined
 joined-lt p d zero h = pow-pos d
 joined-lt p d (suc n) h = or-lt d (joined p n) (p n) (joined-lt p d n (λ j l. h j (omega arith))) (h n (omega arith))
 
--- ---- the word of four samples under accepted masks
+-- ---- the word of four fields under accepted masks
 
--- the field of the sample at place k
-abbrev pub fieldAt : List ℕ → List ℕ → ℕ → ℕ
-fieldAt masks samples k = field (channelOf (getD masks k 0)) (getD samples k 0)
-
-module _ (d : ℕ) (masks samples : List ℕ) (ok : MasksAccepted d masks) (bytes : (k : ℕ) → getD samples k 0 < 256) where
+module _ (d : ℕ) (masks : List ℕ) (ok : MasksAccepted d masks) where
   -- masks at two places share no bit, in either order
-  pub share-none : (j k : ℕ) → j < 4 → k < 4 → (j ≡ k → ⊥) → bitAnd (getD masks j 0) (getD masks k 0) ≡ 0
+  share-none : (j k : ℕ) → j < 4 → k < 4 → (j ≡ k → ⊥) → bitAnd (getD masks j 0) (getD masks k 0) ≡ 0
   share-none j k a b n = go (ltb j k) refl
     where
       go : (t : Bool) → ltb j k ≡ t → bitAnd (getD masks j 0) (getD masks k 0) ≡ 0
       go true e = ok .apart j k (ltb-true j k e) b
       go false e = and-comm (getD masks j 0) (getD masks k 0) ∙ ok .apart k j (omega (arith, ltb-false j k e)) a
 
+  -- fields without a bit outside their masks
+  abbrev pub Own : (ℕ → ℕ) → Type 0
+  Own p = (k : ℕ) → k < 4 → bitAnd (p k) (getD masks k 0) ≡ p k
+
+  module _ (p : ℕ → ℕ) (own : Own p) where
+    pub other : (j k : ℕ) → j < 4 → k < 4 → (j ≡ k → ⊥) → bitAnd (p j) (getD masks k 0) ≡ 0
+    other j k a b n = under-other (p j) (getD masks j 0) (getD masks k 0) (own j a) (share-none j k a b n)
+
+    -- each is what the word has under its mask
+    pub alone : (k : ℕ) → k < 4 → bitAnd (joined p 4) (getD masks k 0) ≡ p k
+    alone k l = one-under p (getD masks k 0) k 4 l (own k l) (λ j i n. other j k i l n)
+
+    -- and the word has no bit above the depth
+    pub below : joined p 4 < 2 ^ d
+    below = joined-lt p d 4 (λ k l. lt-of-le-of-lt (subst (λ (z : ℕ). z ≤ getD masks k 0) (own k l) (and-le-r (p k) (getD masks k 0))) (ok .inside k l))
+
+-- ---- the word of four samples
+
+-- the field of the sample at place k
+abbrev pub fieldAt : List ℕ → List ℕ → ℕ → ℕ
+fieldAt masks samples k = field (channelOf (getD masks k 0)) (getD samples k 0)
+
+module _ (d : ℕ) (masks samples : List ℕ) (ok : MasksAccepted d masks) (bytes : (k : ℕ) → getD samples k 0 < 256) where
+  fields-own : Own d masks ok (fieldAt masks samples)
+  fields-own k l = under-own (getD masks k 0) (getD samples k 0) (ok .runs k l) (bytes k)
+
   -- each channel of the word is its sample, fitted to the mask's count of ones
   pub channel-shown : (k : ℕ) → k < 4 → channel (getD masks k 0) (joined (fieldAt masks samples) 4) ≡ fit (onesIn 32 (getD masks k 0)) (getD samples k 0)
   channel-shown k l =
-      channel-of (getD masks k 0) (getD samples k 0) (joined (fieldAt masks samples) 4) (bytes k)
-      (one-under (fieldAt masks samples) (getD masks k 0) k 4 l (under-own (getD masks k 0) (getD samples k 0) (ok .runs k l) (bytes k))
-      (λ j i n. under-other (fieldAt masks samples j) (getD masks j 0) (getD masks k 0) (under-own (getD masks j 0) (getD samples j 0) (ok .runs j i) (bytes j)) (share-none j k i l n)))
+      channel-of (getD masks k 0) (getD samples k 0) (joined (fieldAt masks samples) 4) (bytes k) (alone d masks ok (fieldAt masks samples) fields-own k l)
 
-  -- the word has no bit above the depth
   pub word-lt : joined (fieldAt masks samples) 4 < 2 ^ d
-  word-lt = joined-lt (fieldAt masks samples) d 4 (λ j l. lt-of-le-of-lt (field-le (getD masks j 0) (getD samples j 0) (ok .runs j l) (bytes j)) (ok .inside j l))
+  word-lt = below d masks ok (fieldAt masks samples) fields-own

@@ -1,7 +1,7 @@
 -- What document 02, A.2, changes of a file: the four bytes of the image size, in RLE files and mask files alone.
 use mathlib.Core.Path.{_≡_, refl, sym, ap, _∙_}
 use mathlib.Core.Bool.{Bool, true, false, cond, false≢true}
-use mathlib.Core.List.{List}
+use mathlib.Core.List.{List, _++_, append-assoc}
 use Prim.Native.Nat.{ℕ, _+_, _-_, _<_}
 use native.Mathlib.Omega.{arith}
 use borrow.Author.Tests.{ne-eqb}
@@ -17,7 +17,7 @@ use Rattle.leaves.specs.Refusals.{firstOf}
 use Rattle.format.specs.declared.layout.Mode.{Mode}
 use Rattle.format.specs.declared.layout.Mode.the-variants.{Masked, Calibrated, Profiled, Plain}
 use Rattle.format.specs.Accepted.{Accepted}
-use Rattle.format.specs.File.{modeIn, rawBytes, headBytes, maxFile, streamUsed, storedRowsOf, pixels, compressionOf, imageSize, headOf, fileSize, fileOf}
+use Rattle.format.specs.File.{modeIn, rawBytes, headBytes, tailOf, maxFile, streamUsed, storedRowsOf, pixels, compressionOf, imageSize, pelsPerMeter, headOf, fileSize, fileOf}
 use Rattle.format.specs.Headers.{fileHeader, infoHeader}
 use Rattle.format.specs.Input.{Input}
 use Rattle.format.specs.Layout.{isMasked, isProfiled, headerSize, rowsCompression}
@@ -48,10 +48,15 @@ image-at : (limit : ℕ) (i : Input) (n : ℕ) → n < 4294967296 → dwordAt (f
 unfolding dwordAt wordAt headOf fileHeader infoHeader le16 le32
 image-at limit i n h = dword-bytes n h
 
--- bfOffBits is where the pixels begin
-offset-at : (limit : ℕ) (i : Input) (n : ℕ) → headBytes i < 4294967296 → dwordAt (fileWith limit i n) 10 ≡ headBytes i
+-- bfOffBits is where the head ends, whatever follows it
+pub offset-at : (i : Input) (c n x y size : ℕ) (rest : List ℕ) → headBytes i < 4294967296 → dwordAt (headOf i c n x y size ++ rest) 10 ≡ headBytes i
 unfolding dwordAt wordAt headOf fileHeader infoHeader le16 le32
-offset-at limit i n h = dword-bytes (headBytes i) h
+offset-at i c n x y size rest h = dword-bytes (headBytes i) h
+
+offset-with : (limit : ℕ) (i : Input) (n : ℕ) → headBytes i < 4294967296 → dwordAt (fileWith limit i n) 10 ≡ headBytes i
+offset-with limit i n h =
+    ap (λ (file : List ℕ). dwordAt file 10) (append-assoc (headOf i (compressionOf limit i) n pelsPerMeter pelsPerMeter (fileSize limit i)) (pixels limit i) (tailOf i))
+    ∙ offset-at i (compressionOf limit i) n pelsPerMeter pelsPerMeter (fileSize limit i) (pixels limit i ++ tailOf i) h
 
 -- ---- the image size of each file
 
@@ -123,7 +128,7 @@ module _ (limit : ℕ) (i : Input) (c : 0 < compressionOf limit i) (h : headerSi
 
   -- and its length less its pixel offset is the image size, whatever stands in the field
   pub found-size : headBytes i < 4294967296 → (n : ℕ) → length (fileWith limit i n) - dwordAt (fileWith limit i n) 10 ≡ imageSize limit i
-  found-size small n = omega (arith, length-with limit i n, offset-at limit i n small, ends-with-pixels)
+  found-size small n = omega (arith, length-with limit i n, offset-with limit i n small, ends-with-pixels)
 
 -- ---- the theorem
 
@@ -171,7 +176,7 @@ module _ (i : Input) (a : Accepted i) where
   unfolding fileOf
   ends-file c h =
       let ends = ends-with-pixels maxFile i c h in
-      omega (arith, offset-at maxFile i (imageSize maxFile i) (omega (arith, ends, a .fits)), field-is c, length-file i, ends)
+      omega (arith, offset-with maxFile i (imageSize maxFile i) (omega (arith, ends, a .fits)), field-is c, length-file i, ends)
 
   pub filled-in : FilledIn i
   filled-in =

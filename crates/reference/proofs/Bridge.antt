@@ -10,19 +10,18 @@ use lib.Seq.{take-at, drop-at}
 use Rattle.leaves.specs.declared.encoder.EncodedBmpFormat.the-variants.{Rle8, Rle4, Bitfields, AlphaBitfields}
 use Rattle.leaves.specs.declared.image.BmpPixelFormat.{BmpPixelFormat}
 use Rattle.leaves.specs.declared.image.BmpPixelFormat.the-variants as source
-use Rattle.leaves.specs.Bytes.{le16, le32}
+use Rattle.leaves.specs.Bytes.{le32}
 use Rattle.leaves.specs.Formats.{bitsPerPixel, plainToken}
 use Rattle.leaves.specs.Masks.{hasAlphaMask}
 use Rattle.leaves.specs.Put.{put}
 use Rattle.format.specs.declared.layout.Mode.{Mode}
-use Rattle.format.specs.File.{modeIn, rawBytes, headBytes, tailOf, streamOf, streamUsed, storedRowsOf, pixels, compressionOf, imageSize, headOf, fileSize, fileOf, plainSize, formatOf}
-use Rattle.format.specs.Headers.{fileHeader, infoHeader}
+use Rattle.format.specs.File.{modeIn, rawBytes, headBytes, tailOf, streamOf, streamUsed, storedRowsOf, pixels, compressionOf, imageSize, fileSize, fileOf, plainSize, formatOf}
 use Rattle.format.specs.Input.{Input}
 use Rattle.format.specs.Layout.{isProfiled, headerSize, maskFormat, rowsCompression, rowsFormat}
-use Rattle.format.specs.Readers.{wordAt, dwordAt}
+use Rattle.format.specs.Readers.{dwordAt}
 use Rattle.format.proofs.Acceptance.{Checked, rows-long}
-use Rattle.format.proofs.HeadFields.{dword-bytes, length-head, length-with}
-use Rattle.format.proofs.ImageSize.{earlierSize, earlierFile, stream-compression, mask-compression, other-size, planned-header, found-size, filled, same-size}
+use Rattle.format.proofs.HeadFields.{length-head, length-with}
+use Rattle.format.proofs.ImageSize.{earlierSize, earlierFile, offset-at, stream-compression, mask-compression, other-size, planned-header, found-size, filled, same-size}
 use Rattle.format.proofs.Modes.{mask-mode, unprofiled-tail, tail-empty, used-in}
 use Rattle.reference.specs.Compared.{refittedWords, withWideChannels, isRleOrMasks, withImageSize, filledIn, agreed, Typed}
 use Rattle.reference.proofs.Original.{originalRows, originalHead, originalFile}
@@ -90,11 +89,6 @@ module _ (i : Input) (ok : Typed i) (k : Checked i) where
     unfolding earlierFile fileSize pixels compressionOf plainSize
     wide-earlier h = rw (no-stream h limit, rows-long i k, no-profile h) (sym (append-nil _))
 
-    -- behind the head, whatever it is
-    offset-is : (rest : List ℕ) → dwordAt (wideHead ++ rest) 10 ≡ headBytes i
-    unfolding dwordAt wordAt headOf fileHeader infoHeader le16 le32
-    offset-is rest = dword-bytes (headBytes i) (omega (arith, head-small i ok k))
-
     -- and with one it has them once it is fitted anew
     pub own-file : withWideChannels i (originalFile limit i) ≡ earlierFile limit i
     unfolding withWideChannels
@@ -106,8 +100,9 @@ module _ (i : Input) (ok : Typed i) (k : Checked i) where
             (originalFile limit i)
             ≡ earlierFile limit i
         go true h =
+            let at : dwordAt (wideHead ++ originalRows i) 10 ≡ headBytes i = offset-at i _ _ _ _ _ (originalRows i) (omega (arith, head-small i ok k)) in
             let long : length wideHead ≡ headBytes i = length-head i _ _ _ _ _ in
-            rw (wide-original h, offset-is (originalRows i), take-at wideHead (originalRows i) (headBytes i) long, drop-at wideHead (originalRows i) (headBytes i) long, rows-refitted i ok k h)
+            rw (wide-original h, at, take-at wideHead (originalRows i) (headBytes i) long, drop-at wideHead (originalRows i) (headBytes i) long, rows-refitted i ok k h)
             (wide-earlier h)
         go false h = narrow-file h
 

@@ -1,13 +1,12 @@
 -- Mask mode in the original's file and in the document's: channels of at most 16 bits are the same, and the others once they are fitted anew.
-use mathlib.Core.Path.{_≡_, refl, sym, ap, ap₂, _∙_, subst}
+use mathlib.Core.Path.{_≡_, refl, sym, ap, ap₂, _∙_}
 use mathlib.Core.Bool.{Bool, true, false, cond}
 use mathlib.Core.List.{List, [], _∷_, _++_, append-assoc, append-nil}
 use Prim.Native.Nat.{ℕ, zero, suc, _+_, _-_, _*_, _/_, _%_, _^_, _≤_, _<_}
-use native.Mathlib.Nat.{lt-of-le-of-lt}
 use native.Mathlib.Omega.{arith}
-use borrow.Author.Tests.{ltb-true, ltb-false, lt-ltb, le-ltb, le-leb, lt-leb, ne-eqb}
-use lib.Bits.{bitAnd, bitOr, and-comm, and-zero-l, and-le-l, and-le-r, or-disjoint}
-use lib.Dec.{ltb, leb, eqb}
+use borrow.Author.Tests.{ltb-true, ltb-false, lt-ltb, le-ltb, le-leb, ne-eqb}
+use lib.Bits.{bitAnd, bitOr, and-comm, and-zero-l, and-le-l, or-disjoint}
+use lib.Dec.{ltb, eqb}
 use lib.ListN.{length, getD, length-append}
 use lib.Pow.{shl-exact, shl-shr, shr-shr}
 use Rattle.leaves.specs.declared.bitfields.MaskShiftLen.{MaskShiftLen}
@@ -15,13 +14,14 @@ use Rattle.leaves.specs.Bytes.{le32}
 use Rattle.leaves.specs.Fit.{repeated, fit}
 use Rattle.leaves.specs.Lists.{cat}
 use Rattle.leaves.specs.Masks.{count, lowest, isOneRun}
+use Rattle.leaves.proofs.Fitting.{fit-repeated}
 use Rattle.leaves.proofs.ListLaws.{length-le32}
 use Rattle.leaves.proofs.Runs.{count-zero}
 use Rattle.rows.specs.StoredRows.{field}
 use Rattle.rows.proofs.MaskCells.{field-none, field-some}
 use Rattle.format.specs.Accepted.{MasksAccepted}
 use Rattle.format.specs.Layout.{channelOf}
-use Rattle.format.proofs.Channels.{and-assoc, field-is, moved-under, under-own, under-other, joined, joined-lt, none-under, one-under, fieldAt, share-none}
+use Rattle.format.proofs.Channels.{and-assoc, field-is, moved-under, under-own, joined, none-under, Own, other, alone, below, fieldAt}
 use Rattle.format.proofs.FileSizes.{mask-within}
 use Rattle.format.proofs.HeadFields.{dword-bytes}
 use Rattle.reference.specs.Compared.{isWide, refitted, refittedWord, refittedWords}
@@ -41,11 +41,6 @@ narrow-ones mask e = omega (arith, ltb-false _ (count mask) e)
 fit-same : (n sample : ℕ) → n ≤ 16 → originalFit n sample ≡ fit n sample
 unfolding originalFit fit
 fit-same n sample h = rw (le-leb n 16 h)
-
--- and over 16 the document repeats the bits
-fit-over-16 : (n sample : ℕ) → 16 < n → fit n sample ≡ repeated n sample
-unfolding fit
-fit-over-16 n sample h = rw (lt-leb n 8 (omega arith), lt-leb n 15 (omega arith), lt-leb n 16 h)
 
 pub field-same : (channel : MaskShiftLen) (sample : ℕ) → channel .len ≤ 16 → sample < 256 → channel .shift + channel .len ≤ 32
     → originalField channel sample ≡ field channel sample
@@ -98,7 +93,7 @@ module _ (mask sample : ℕ) (one : isOneRun mask ≡ true) (ends : channelOf ma
           in
           rw (own, top)
           (ap (λ (z : ℕ). word - originalField (channelOf mask) sample + z)
-          (ap (λ (z : ℕ). z * 2 ^ lowest mask) (sym (fit-over-16 (count mask) sample n)) ∙ sym (field-is mask sample byte)))
+          (ap (λ (z : ℕ). z * 2 ^ lowest mask) (sym (fit-repeated (count mask) sample byte)) ∙ sym (field-is mask sample byte)))
       go false e =
           let same = field-same (channelOf mask) sample (narrow-ones mask e) byte ends in
           omega (arith, same, own, and-le-l word mask)
@@ -121,27 +116,16 @@ module _ (d : ℕ) (masks samples : List ℕ) (ok : MasksAccepted d masks) (byte
   abbrev pub originalAt : ℕ → ℕ
   originalAt k = originalField (channelOf (maskAt k)) (getD samples k 0)
 
-  -- fields without a bit outside their masks
-  abbrev Own : (ℕ → ℕ) → Type 0
-  Own p = (k : ℕ) → k < 4 → bitAnd (p k) (maskAt k) ≡ p k
-
-  module _ (p : ℕ → ℕ) (own : Own p) where
-    other : (j k : ℕ) → j < 4 → k < 4 → (j ≡ k → ⊥) → bitAnd (p j) (maskAt k) ≡ 0
-    other j k a b n = under-other (p j) (maskAt j) (maskAt k) (own j a) (share-none d masks samples ok bytes j k a b n)
-
-    -- each is what the word has under its mask
-    alone : (k : ℕ) → k < 4 → bitAnd (joined p 4) (maskAt k) ≡ p k
-    alone k l = one-under p (maskAt k) k 4 l (own k l) (λ j i n. other j k i l n)
-
+  -- fields that share no bit add up to their word
+  module _ (p : ℕ → ℕ) (own : Own d masks ok p) where
     apart : (n : ℕ) → n < 4 → bitOr (joined p n) (p n) ≡ joined p n + p n
     apart n l =
         or-disjoint (joined p n) (p n)
         (ap (bitAnd (joined p n)) (sym (own n l) ∙ and-comm (p n) (maskAt n))
         ∙ sym (and-assoc (joined p n) (maskAt n) (p n))
-        ∙ ap (λ (z : ℕ). bitAnd z (p n)) (none-under p (maskAt n) n (λ j i. other j n (omega arith) l (λ e. omega arith)))
+        ∙ ap (λ (z : ℕ). bitAnd z (p n)) (none-under p (maskAt n) n (λ j i. other d masks ok p own j n (omega arith) l (λ e. omega arith)))
         ∙ and-zero-l (p n))
 
-    -- and the word is their sum
     summed : joined p 4 ≡ p 0 + p 1 + p 2 + p 3
     unfolding joined
     summed = omega (arith, apart 0 (omega arith), apart 1 (omega arith), apart 2 (omega arith), apart 3 (omega arith))
@@ -150,7 +134,7 @@ module _ (d : ℕ) (masks samples : List ℕ) (ok : MasksAccepted d masks) (byte
   abbrev mixed : ℕ → ℕ → ℕ
   mixed n k = cond (ltb k n) (fieldAt masks samples k) (originalAt k)
 
-  mixed-own : (n : ℕ) → Own (mixed n)
+  mixed-own : (n : ℕ) → Own d masks ok (mixed n)
   mixed-own n k l = go (ltb k n)
     where
       go : (b : Bool) → bitAnd (cond b (fieldAt masks samples k) (originalAt k)) (maskAt k) ≡ cond b (fieldAt masks samples k) (originalAt k)
@@ -162,7 +146,7 @@ module _ (d : ℕ) (masks samples : List ℕ) (ok : MasksAccepted d masks) (byte
   turn k l =
       let here : mixed k k ≡ originalAt k = ap (λ (b : Bool). cond b (fieldAt masks samples k) (originalAt k)) (le-ltb k k (omega arith)) in
       let next : mixed (suc k) k ≡ fieldAt masks samples k = ap (λ (b : Bool). cond b (fieldAt masks samples k) (originalAt k)) (lt-ltb k (suc k) (omega arith)) in
-      refitted-is (maskAt k) (getD samples k 0) (ok .runs k l) (mask-within d masks ok k l) (bytes k) (joined (mixed k) 4) (alone (mixed k) (mixed-own k) k l ∙ here)
+      refitted-is (maskAt k) (getD samples k 0) (ok .runs k l) (mask-within d masks ok k l) (bytes k) (joined (mixed k) 4) (alone d masks ok (mixed k) (mixed-own k) k l ∙ here)
       ∙ ap₂ (λ (x y : ℕ). joined (mixed k) 4 - x + y) (sym here) (sym next)
       ∙ ap (λ (z : ℕ). z - mixed k k + mixed (suc k) k) (summed (mixed k) (mixed-own k))
       ∙ exchanged (mixed k) (mixed (suc k)) k l same
@@ -177,11 +161,8 @@ module _ (d : ℕ) (masks samples : List ℕ) (ok : MasksAccepted d masks) (byte
 
   -- the original's word has no bit above the depth
   pub original-small : joined originalAt 4 < 2 ^ d
-  original-small =
-      joined-lt originalAt d 4
-      (λ k l.
-      let own = original-own (maskAt k) (getD samples k 0) (ok .runs k l) (mask-within d masks ok k l) (bytes k) in
-      lt-of-le-of-lt (subst (λ (z : ℕ). z ≤ maskAt k) own (and-le-r (originalAt k) (maskAt k))) (ok .inside k l))
+  unfolding joined
+  original-small = below d masks ok (mixed 0) (mixed-own 0)
 
   -- the original's word, with its wide channels fitted anew, is the document's
   pub word-refitted : refittedWord masks (joined originalAt 4) ≡ joined (fieldAt masks samples) 4
@@ -194,10 +175,10 @@ module _ (d : ℕ) (masks samples : List ℕ) (ok : MasksAccepted d masks) (byte
   pub narrow-kept : (k : ℕ) → k < 4 → isWide (maskAt k) ≡ false → bitAnd (joined (fieldAt masks samples) 4) (maskAt k) ≡ bitAnd (joined originalAt 4) (maskAt k)
   unfolding joined
   narrow-kept k l e =
-      alone (mixed 4) (mixed-own 4) k l
+      alone d masks ok (mixed 4) (mixed-own 4) k l
       ∙ ap (λ (b : Bool). cond b (fieldAt masks samples k) (originalAt k)) (lt-ltb k 4 l)
       ∙ sym (field-same (channelOf (maskAt k)) (getD samples k 0) (narrow-ones (maskAt k) e) (bytes k) (mask-within d masks ok k l))
-      ∙ sym (alone (mixed 0) (mixed-own 0) k l ∙ ap (λ (b : Bool). cond b (fieldAt masks samples k) (originalAt k)) (le-ltb k 0 (omega arith)))
+      ∙ sym (alone d masks ok (mixed 0) (mixed-own 0) k l ∙ ap (λ (b : Bool). cond b (fieldAt masks samples k) (originalAt k)) (le-ltb k 0 (omega arith)))
 
 -- ---- words one behind another
 

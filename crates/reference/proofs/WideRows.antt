@@ -2,8 +2,8 @@
 use mathlib.Core.Path.{_≡_, refl, sym, ap, _∙_, subst}
 use mathlib.Core.Bool.{Bool, true, false, true≢false, cond, _&&_, _||_}
 use mathlib.Core.Logic.{_⊎_, inl, inr}
-use mathlib.Core.List.{List, _++_, append-nil}
-use Prim.Native.Nat.{ℕ, zero, suc, _+_, _-_, _*_, _/_, _^_, _<_}
+use mathlib.Core.List.{List, _++_}
+use Prim.Native.Nat.{ℕ, zero, suc, _+_, _^_, _<_}
 use native.Mathlib.Omega.{arith}
 use lib.Dec.{eqb}
 use lib.ListN.{length, getD}
@@ -17,6 +17,7 @@ use Rattle.leaves.proofs.ListLaws.{cat-ext, length-cat, length-le32}
 use Rattle.leaves.proofs.Runs.{count-le}
 use Rattle.rows.specs.declared.pack.RowPack.the-variants.{Masks}
 use Rattle.rows.specs.StoredRows.{padded, maskWord, maskCell, storedRow, storedRows}
+use Rattle.rows.proofs.PackLaws.{padded-full}
 use Rattle.format.specs.Accepted.{MasksAccepted}
 use Rattle.format.specs.File.{packIn, storedRowsOf}
 use Rattle.format.specs.Input.{Input}
@@ -32,10 +33,8 @@ use Rattle.reference.proofs.WideChannels.{wide-ones, word-refitted, ori
 
 -- words of 32 bits have no padding behind them
 unpadded : (w : ℕ) (f : ℕ → List ℕ) → ((x : ℕ) → length (f x) ≡ 4) → padded (rowStride w 32) (cat f w) ≡ cat f w
-unfolding padded rowStride
-unpadded w f four =
-    let e : (w * 32 + 31) / 32 * 4 - length (cat f w) ≡ 0 = omega (arith, length-cat f 4 w (λ x _. four x)) in
-    rw e (append-nil (cat f w))
+unfolding rowStride
+unpadded w f four = padded-full (rowStride w 32) (cat f w) (omega (arith, length-cat f 4 w (λ x _. four x)))
 
 -- ---- a row
 
