@@ -7,7 +7,7 @@ use Prim.Native.Nat.{ℕ, zero, suc, _<_}
 use native.Mathlib.Nat.{not-suc-le-zero, le-of-suc-le-suc, eq-or-lt-of-le}
 use lib.ListN.{getD}
 use Rattle.leaves.specs.declared.error.Refusal.{Refusal}
-use Rattle.leaves.specs.declared.error.Refusal.the-variants.{ZeroDimension, DimensionTooLarge, PaletteMissing, PaletteNotQuads, SeveralModes, MaskDepth, MaskAboveDepth, MaskNotOneRun, MaskOverlap, NoColourMask, MaskSource, PlaneTooShort, StrideTooShort, FileTooLarge, BufferTooShort, StreamOverBudget}
+use Rattle.leaves.specs.declared.error.Refusal.the-variants.{ZeroDimension, DimensionTooLarge, PaletteMissing, PaletteNotQuads, SeveralModes, MaskDepth, MaskAboveDepth, MaskNotOneRun, MaskOverlap, NoColourMask, MaskSource, PlaneTooShort, StrideTooShort, FileTooLarge, BufferTooShort, StreamOverBudget, LimitTooLarge, NegativeResolution}
 use Rattle.leaves.specs.declared.error.Check.{Check}
 use Rattle.leaves.specs.declared.error.Check.the-variants.{Passed, Refused}
 use Rattle.leaves.specs.Lists.{cat}
@@ -35,6 +35,11 @@ byNumber n =
     ∷ Refused FileTooLarge
     ∷ Refused BufferTooShort
     ∷ Refused StreamOverBudget
+    ∷ Passed
+    ∷ Passed
+    ∷ Passed
+    ∷ Refused LimitTooLarge
+    ∷ Refused NegativeResolution
     ∷ []
     ) n Passed
 
@@ -57,6 +62,8 @@ by-number (Refused StrideTooShort) = refl
 by-number (Refused FileTooLarge) = refl
 by-number (Refused BufferTooShort) = refl
 by-number (Refused StreamOverBudget) = refl
+by-number (Refused LimitTooLarge) = refl
+by-number (Refused NegativeResolution) = refl
 
 pub check-determined : (a b : Check) → checkNumber a ≡ checkNumber b → a ≡ b
 check-determined a b e = sym (by-number a) ∙ ap byNumber e ∙ by-number b

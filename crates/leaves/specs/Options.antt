@@ -1,4 +1,5 @@
--- The Rust's `EncodeOptions::default()`; an absent set is all zeros.
+-- The Rust's `EncodeOptions::default()`; an absent set is all zeros. Limit and resolutions are what the Rust has for every file (document 02, A.5: "defaults
+-- are today's numbers").
 use mathlib.Core.Bool.{true, false}
 use lib.IntN.{pos}
 use lib.ListN.{replicate}
@@ -16,4 +17,7 @@ defaults =
       «rendering_intent» = 4;
       «has_calibrated_rgb» = false;
       «calibrated_rgb» = record { endpoints = replicate 9 (pos 0); gamma = replicate 3 0 };
+      limit = 4294967295;
+      «x_pels_per_meter» = pos 2835;
+      «y_pels_per_meter» = pos 2835;
     }

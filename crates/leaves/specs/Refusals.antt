@@ -1,15 +1,17 @@
--- Document 01's table of refusals: a number for each cause, one predicate for each row in that row's own words, and the first row that applies.
+-- Document 01's table of refusals, with document 02's numbers of the settings: a number for each cause, one predicate for each row in that row's own words, and the first row that applies.
 -- The rows that need the plan (11, 14, 15, 16) are defined where the plan is.
 use mathlib.Core.Bool.{Bool, true, false, not, cond, _&&_, _||_}
 use mathlib.Core.List.{List, [], _∷_}
 use Prim.Native.Nat.{ℕ, _+_, _*_, _%_}
 use lib.Dec.{ltb, eqb}
+use lib.IntN.{ℤ, pos}
+use lib.Signed.{ltZ}
 use Rattle.leaves.specs.declared.error.Refusal.{Refusal}
-use Rattle.leaves.specs.declared.error.Refusal.the-variants.{ZeroDimension, DimensionTooLarge, PaletteMissing, PaletteNotQuads, SeveralModes, MaskDepth, MaskAboveDepth, MaskNotOneRun, MaskOverlap, NoColourMask, MaskSource, PlaneTooShort, StrideTooShort, FileTooLarge, BufferTooShort, StreamOverBudget}
+use Rattle.leaves.specs.declared.error.Refusal.the-variants.{ZeroDimension, DimensionTooLarge, PaletteMissing, PaletteNotQuads, SeveralModes, MaskDepth, MaskAboveDepth, MaskNotOneRun, MaskOverlap, NoColourMask, MaskSource, PlaneTooShort, StrideTooShort, FileTooLarge, BufferTooShort, StreamOverBudget, LimitTooLarge, NegativeResolution}
 use Rattle.leaves.specs.declared.error.Check.{Check}
 use Rattle.leaves.specs.declared.error.Check.the-variants.{Passed, Refused}
 
--- the table's column "No."
+-- the table's column "No.", and document 02, A.5: "New numbers: 20 .. 21"
 abbrev pub numberOf : Refusal → ℕ
 numberOf ZeroDimension = 1
 numberOf DimensionTooLarge = 2
@@ -27,6 +29,8 @@ numberOf StrideTooShort = 13
 numberOf FileTooLarge = 14
 numberOf BufferTooShort = 15
 numberOf StreamOverBudget = 16
+numberOf LimitTooLarge = 20
+numberOf NegativeResolution = 21
 
 -- a check's answer as a number: 0 where nothing is refused
 abbrev pub checkNumber : Check → ℕ
@@ -54,6 +58,14 @@ zeroDimension width height = eqb width 0 || eqb height 0
 -- 2: "width or height over 2,147,483,647"
 abbrev pub dimensionTooLarge : ℕ → ℕ → Bool
 dimensionTooLarge width height = ltb 2147483647 width || ltb 2147483647 height
+
+-- 20 (document 02, A.5): "limit over 4,294,967,295"
+abbrev pub limitTooLarge : ℕ → Bool
+limitTooLarge limit = ltb 4294967295 limit
+
+-- 21: "a negative resolution (signed 32-bit numbers)"
+abbrev pub negativeResolution : ℤ → ℤ → Bool
+negativeResolution x y = ltZ x (pos 0) || ltZ y (pos 0)
 
 -- 3: "indexed format, palette absent"
 abbrev pub paletteMissing : Bool → Bool → Bool
@@ -87,6 +99,9 @@ strideTooShort stride width sourceBytes = ltb stride (width * sourceBytes)
 -- the table's groups, each in the table's order
 unfoldable pub dimensionRows : ℕ → ℕ → List (Bool × Refusal)
 dimensionRows width height = (zeroDimension width height, ZeroDimension) ∷ (dimensionTooLarge width height, DimensionTooLarge) ∷ []
+
+unfoldable pub settingsRows : ℕ → ℤ → ℤ → List (Bool × Refusal)
+settingsRows limit x y = (limitTooLarge limit, LimitTooLarge) ∷ (negativeResolution x y, NegativeResolution) ∷ []
 
 unfoldable pub paletteRows : Bool → Bool → ℕ → List (Bool × Refusal)
 paletteRows indexed given bytes = (paletteMissing indexed given, PaletteMissing) ∷ (paletteNotQuads indexed bytes, PaletteNotQuads) ∷ []

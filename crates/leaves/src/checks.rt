@@ -1,10 +1,11 @@
-// The checks of document 01's table that need numbers only, one function for each group of rows.
+// The checks of the table of refusals that need numbers only, one function for each group of rows.
 ghost use mathlib.Core.Path.{_≡_};
 ghost use Prim.Native.Nat.{_*_};
 ghost use lib.Dec.{ltb};
-ghost use Rattle.leaves.specs.Refusals.{firstOf, profileMode, dimensionRows, paletteRows, modeRows, planeRows};
+ghost use Rattle.leaves.specs.Refusals.{firstOf, profileMode, dimensionRows, settingsRows, paletteRows, modeRows, planeRows};
 use crate::error::Check;
 use crate::error::Refusal;
+use crate::types::MAX_FILE;
 
 // The largest LONG: biWidth and biHeight are signed.
 const MAX_DIMENSION: u32 = 0x7FFF_FFFF;
@@ -18,6 +19,19 @@ pub fn check_dimensions(width: u32, height: u32) -> Check
     }
     if width > MAX_DIMENSION || height > MAX_DIMENSION {
         return Check::Refused(Refusal::DimensionTooLarge);
+    }
+    Check::Passed
+}
+
+// 20 and 21.
+pub fn check_settings(limit: u64, x_pels_per_meter: i32, y_pels_per_meter: i32) -> Check
+    ensures { λ r. ⌜ r ≡ firstOf (settingsRows limit «x_pels_per_meter» «y_pels_per_meter») ⌝ }
+{
+    if limit > MAX_FILE {
+        return Check::Refused(Refusal::LimitTooLarge);
+    }
+    if x_pels_per_meter < 0 || y_pels_per_meter < 0 {
+        return Check::Refused(Refusal::NegativeResolution);
     }
     Check::Passed
 }

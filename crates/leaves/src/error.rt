@@ -2,7 +2,7 @@
 ghost use mathlib.Core.Path.{_≡_};
 ghost use Rattle.leaves.specs.Refusals.{numberOf, checkNumber, orElse};
 
-// The rows of document 01's table, in their order.
+// The rows of document 01's table, in their order, and document 02's of the settings.
 pub enum Refusal {
     ZeroDimension,
     DimensionTooLarge,
@@ -20,6 +20,8 @@ pub enum Refusal {
     FileTooLarge,
     BufferTooShort,
     StreamOverBudget,
+    LimitTooLarge,
+    NegativeResolution,
 }
 
 impl Refusal {
@@ -44,6 +46,8 @@ impl Refusal {
             Refusal::FileTooLarge => 14,
             Refusal::BufferTooShort => 15,
             Refusal::StreamOverBudget => 16,
+            Refusal::LimitTooLarge => 20,
+            Refusal::NegativeResolution => 21,
         }
     }
 }

@@ -35,6 +35,12 @@ pub const PROFILE_EMBEDDED: u32 = 0x4D42_4544;
 // The default of bV5Intent.
 pub const LCS_GM_IMAGES: u32 = 4;
 
+// The largest file that bfSize can record.
+pub const MAX_FILE: u64 = 0xFFFF_FFFF;
+
+// The default resolution, 72 dots an inch to the nearest pixel a metre.
+pub const PELS_PER_METER: i32 = 2835;
+
 // Bytes of a stored row: its bits rounded up to a multiple of 32.
 pub fn row_stride(width: u32, bpp: u16) -> usize
     ensures { λ r. ⌜ r ≡ rowStride width bpp ⌝ }
