@@ -9,6 +9,7 @@ use native.Mathlib.Nat.{not-suc-le-zero, le-of-suc-le-suc, eq-or-lt-of-le}
 use borrow.Author.Tests.{eqb-true, eqb-false, leb-false, ltb-false, not-false, eq-eqb}
 use lib.Bits.{bitAnd, and-zero-r}
 use lib.Dec.{eqb, leb, ltb}
+use lib.IntN.{ℤ}
 use lib.ListN.{length, getD}
 use lib.Pow.{pow-pos}
 use Rattle.leaves.specs.declared.encoder.EncodeSource.{EncodeSource}
@@ -18,8 +19,8 @@ use Rattle.leaves.specs.declared.error.Refusal.{Refusal}
 use Rattle.leaves.specs.declared.error.Refusal.the-variants.{MaskSource, FileTooLarge, BufferTooShort, StreamOverBudget}
 use Rattle.leaves.specs.Lists.{cat}
 use Rattle.leaves.specs.Masks.{count, isOneRun, sharesBit, maskDepth, maskRows, bitfieldsRows}
-use Rattle.leaves.specs.Refusals.{firstOf, profileMode, dimensionRows, paletteRows, modeRows, planeRows}
-use Rattle.format.specs.File.{rlePlanned, rawBytes, streamOf, maxFile, budget, streamUsed, storedRowsOf, plainSize}
+use Rattle.leaves.specs.Refusals.{firstOf, profileMode, dimensionRows, settingsRows, paletteRows, modeRows, planeRows}
+use Rattle.format.specs.File.{rlePlanned, rawBytes, streamOf, maxFile, limitIn, budget, streamUsed, storedRowsOf, plainSize}
 use Rattle.format.specs.Refusals.{fileTooLarge, bufferTooShort, streamOverBudget, givenMasksRows, checkRows, callRows, planRows, writeRows}
 use Rattle.leaves.specs.Formats.{bytesPerPixel, isIndexed, maskSource}
 use Rattle.format.proofs.Modes.{both}
@@ -117,6 +118,11 @@ dimensions w h e =
       (omega (arith, eqb-false h 0 (zero .1)), omega (arith, ltb-false 2147483647 h (large .1))),
     )
 
+-- 20 and 21 passed
+settings : (limit : ℕ) (x y : ℤ) → firstOf (settingsRows limit x y) ≡ Passed → limit ≤ maxFile
+unfolding settingsRows
+settings limit x y e = ltb-false maxFile limit (row-parts (ltb maxFile limit) _ _ e .0)
+
 -- 12 and 13 passed
 plane : (w h stride n bytes : ℕ) → firstOf (planeRows w h stride n bytes) ≡ Passed → (stride * h ≤ bytes) × (w * n ≤ stride)
 unfolding planeRows
@@ -135,12 +141,12 @@ given-masks s o e q =
     (masks-accepted (o .bitfields .bpp) (o .bitfields .masks) (both .0), row-parts (maskSource (s .format)) _ _ (both .1) .0)
 
 -- 14 and 16 passed: the file fits
-pub size-fits : (i : Input) → fileTooLarge maxFile i ≡ false → streamOverBudget maxFile i ≡ false → streamUsed maxFile i ≡ false → plainSize i ≤ maxFile
+pub size-fits : (limit : ℕ) (i : Input) → fileTooLarge limit i ≡ false → streamOverBudget limit i ≡ false → streamUsed limit i ≡ false → plainSize i ≤ limit
 unfolding fileTooLarge streamOverBudget streamUsed
-size-fits i large over used = go (rlePlanned i) (ltb (length (streamOf i)) (budget maxFile i)) (ltb maxFile (plainSize i)) refl large over used
+size-fits limit i large over used = go (rlePlanned i) (ltb (length (streamOf i)) (budget limit i)) (ltb limit (plainSize i)) refl large over used
   where
-    go : (p s l : Bool) → ltb maxFile (plainSize i) ≡ l → (not p && l) ≡ false → (p && l && not s) ≡ false → (p && s) ≡ false → plainSize i ≤ maxFile
-    go p s false q a b c = ltb-false maxFile (plainSize i) q
+    go : (p s l : Bool) → ltb limit (plainSize i) ≡ l → (not p && l) ≡ false → (p && l && not s) ≡ false → (p && s) ≡ false → plainSize i ≤ limit
+    go p s false q a b c = ltb-false limit (plainSize i) q
     go false s true q a b c = absurd (false≢true (sym a))
     go true true true q a b c = absurd (false≢true (sym c))
     go true false true q a b c = absurd (false≢true (sym b))
@@ -151,6 +157,7 @@ pub record ChecksPassed (s : EncodeSource) (o : EncodeOptions) (planeBytes : ℕ
   pub wide : s .width < 2147483648
   pub some-height : 0 < s .height
   pub tall : s .height < 2147483648
+  pub limited : o .limit ≤ maxFile
   pub rows-inside : s .width * bytesPerPixel (s .format) ≤ s .stride
   pub plane-long : s .stride * s .height ≤ planeBytes
   pub masks : o .«has_bitfields» ≡ true → MasksAccepted (o .bitfields .bpp) (o .bitfields .masks)
@@ -160,14 +167,16 @@ pub checks-passed : (s : EncodeSource) (o : EncodeOptions) (planeBytes paletteBy
 unfolding checkRows
 checks-passed s o planeBytes paletteBytes e =
     let dimension = dimensionRows (s .width) (s .height) in
+    let setting = settingsRows (o .limit) (o .«x_pels_per_meter») (o .«y_pels_per_meter») in
     let palette = paletteRows (isIndexed (s .format)) (s .«has_palette») paletteBytes in
     let modes = modeRows (o .«has_bitfields») (o .«has_calibrated_rgb») (profileMode (s .«has_linked_icc») (s .«has_icc») (o .«embed_icc»)) in
     let masks = givenMasksRows s o in
-    let a12 = first-parts (dimension ++ palette ++ modes ++ masks) (planeRows (s .width) (s .height) (s .stride) (bytesPerPixel (s .format)) planeBytes) e in
-    let a6 = first-parts (dimension ++ palette ++ modes) masks (a12 .0) in
-    let a5 = first-parts (dimension ++ palette) modes (a6 .0) in
-    let a3 = first-parts dimension palette (a5 .0) in
-    let size = dimensions (s .width) (s .height) (a3 .0) in
+    let a12 = first-parts (dimension ++ setting ++ palette ++ modes ++ masks) (planeRows (s .width) (s .height) (s .stride) (bytesPerPixel (s .format)) planeBytes) e in
+    let a6 = first-parts (dimension ++ setting ++ palette ++ modes) masks (a12 .0) in
+    let a5 = first-parts (dimension ++ setting ++ palette) modes (a6 .0) in
+    let a3 = first-parts (dimension ++ setting) palette (a5 .0) in
+    let a20 = first-parts dimension setting (a3 .0) in
+    let size = dimensions (s .width) (s .height) (a20 .0) in
     let long = plane (s .width) (s .height) (s .stride) (bytesPerPixel (s .format)) planeBytes (a12 .1) in
     let mask = given-masks s o (a6 .1) in
     record {
@@ -175,6 +184,7 @@ checks-passed s o planeBytes paletteBytes e =
       wide = size .0 .1;
       some-height = size .1 .0;
       tall = size .1 .1;
+      limited = settings (o .limit) (o .«x_pels_per_meter») (o .«y_pels_per_meter») (a20 .1);
       rows-inside = long .1;
       plane-long = long .0;
       masks = λ q. mask q .0;
@@ -193,23 +203,23 @@ pub rows-long : (i : Input) → Checked i → length (storedRowsOf i) ≡ rawByt
 rows-long i k = length-rows i (k .masks) (k .samples)
 
 -- 1 to 14 passed
-pub plan-passed : (i : Input) → firstOf (planRows maxFile i) ≡ Passed → Checked i × (fileTooLarge maxFile i ≡ false)
+pub plan-passed : (i : Input) → firstOf (planRows (limitIn i) i) ≡ Passed → Checked i × (fileTooLarge (limitIn i) i ≡ false)
 unfolding planRows
 plan-passed i e =
-    let both = first-parts (callRows i) ((fileTooLarge maxFile i, FileTooLarge) ∷ []) e in
-    (checked i (both .0), row-parts (fileTooLarge maxFile i) FileTooLarge (firstOf []) (both .1) .0)
+    let both = first-parts (callRows i) ((fileTooLarge (limitIn i) i, FileTooLarge) ∷ []) e in
+    (checked i (both .0), row-parts (fileTooLarge (limitIn i) i) FileTooLarge (firstOf []) (both .1) .0)
 
 -- a call that no row of the table refuses
 pub accepted : (i : Input) (room offset : ℕ) → ((k : ℕ) → getD (i .plane) k 0 < 256) → ((k : ℕ) → getD (i .palette) k 0 < 256)
     → length (i .options .«calibrated_rgb» .endpoints) ≡ 9 → length (i .options .«calibrated_rgb» .gamma) ≡ 3
-    → firstOf (writeRows maxFile i room offset) ≡ Passed → Accepted i
+    → firstOf (writeRows (limitIn i) i room offset) ≡ Passed → Accepted i
 unfolding writeRows
 accepted i room offset plane-bytes palette-bytes nine three e =
-    let writing : List (Bool × Refusal) = (bufferTooShort maxFile i room offset, BufferTooShort) ∷ (streamOverBudget maxFile i, StreamOverBudget) ∷ [] in
-    let all = first-parts (planRows maxFile i) writing e in
+    let writing : List (Bool × Refusal) = (bufferTooShort (limitIn i) i room offset, BufferTooShort) ∷ (streamOverBudget (limitIn i) i, StreamOverBudget) ∷ [] in
+    let all = first-parts (planRows (limitIn i) i) writing e in
     let plan = plan-passed i (all .0) in
     let k = plan .0 in
-    let over = row-parts (streamOverBudget maxFile i) StreamOverBudget (firstOf []) (row-parts (bufferTooShort maxFile i room offset) BufferTooShort _ (all .1) .1) .0 in
+    let over = row-parts (streamOverBudget (limitIn i) i) StreamOverBudget (firstOf []) (row-parts (bufferTooShort (limitIn i) i room offset) BufferTooShort _ (all .1) .1) .0 in
     record {
       some-width = k .some-width;
       wide = k .wide;
@@ -223,5 +233,6 @@ accepted i room offset plane-bytes palette-bytes nine three e =
       plane-long = k .plane-long;
       masks = k .masks;
       samples = k .samples;
-      fits = file-fits maxFile i (rows-long i k) (size-fits i (plan .1) over);
+      fits = file-fits (limitIn i) i (rows-long i k) (size-fits (limitIn i) i (plan .1) over);
+      limited = k .limited;
     }

@@ -40,6 +40,9 @@ chosen topDown minimal rle hasMasks masks intent hasCalibrated calibrated =
       «rendering_intent» = intent;
       «has_calibrated_rgb» = hasCalibrated;
       «calibrated_rgb» = calibrated;
+      limit = defaults .limit;
+      «x_pels_per_meter» = defaults .«x_pels_per_meter»;
+      «y_pels_per_meter» = defaults .«y_pels_per_meter»;
     }
 
 -- a minimal palette; top-down or not, RLE on or off
@@ -66,6 +69,29 @@ withCalibrated endpoints gamma = chosen false false true false strayMasks 4 true
 abbrev pub call : EncodeSource → EncodeOptions → List ℕ → List ℕ → List ℕ → List ℕ → Input
 call source options plane palette icc linked =
     record { source = source; options = options; plane = plane; palette = palette; icc = icc; linked = linked }
+
+-- a call with another limit and other resolutions
+abbrev pub withSettings : ℕ → ℤ → ℤ → Input → Input
+withSettings limit x y i =
+    call (i .source)
+    (record {
+      «top_down» = i .options .«top_down»;
+      «minimal_palette» = i .options .«minimal_palette»;
+      rle = i .options .rle;
+      «has_bitfields» = i .options .«has_bitfields»;
+      bitfields = i .options .bitfields;
+      «embed_icc» = i .options .«embed_icc»;
+      «rendering_intent» = i .options .«rendering_intent»;
+      «has_calibrated_rgb» = i .options .«has_calibrated_rgb»;
+      «calibrated_rgb» = i .options .«calibrated_rgb»;
+      limit = limit;
+      «x_pels_per_meter» = x;
+      «y_pels_per_meter» = y;
+    })
+    (i .plane) (i .palette) (i .icc) (i .linked)
+
+abbrev pub under : ℕ → Input → Input
+under limit i = withSettings limit (i .options .«x_pels_per_meter») (i .options .«y_pels_per_meter») i
 
 -- Pal8 of one row of this width and stride, a plane of so many bytes, all 7, with an empty minimal palette; RLE on or off
 abbrev pub sevensWith : Bool → ℕ → ℕ → ℕ → Input

@@ -9,14 +9,14 @@ use Rattle.leaves.specs.Bytes.{le16, le32}
 use Rattle.leaves.specs.Fit.{fromTop, repeated, fit}
 use Rattle.leaves.specs.Lists.{tab, cat}
 use Rattle.leaves.specs.Masks.{count, lowest, isOneRun, sharesBit, maskRows, bitfieldsRows}
-use Rattle.leaves.specs.Refusals.{firstNumber, dimensionRows, paletteRows, modeRows, planeRows}
+use Rattle.leaves.specs.Refusals.{firstNumber, dimensionRows, settingsRows, paletteRows, modeRows, planeRows}
 use Rattle.leaves.specs.Sizes.{rowStride, paletteEntryCount, writtenPaletteEntries, clrUsed}
 use Rattle.rows.specs.Packing.{digits, packedByte, packed}
 use Rattle.rows.specs.RleCodes.{cells, scan, bytes, codes, rowCodes}
 use Rattle.rows.specs.Stream.{streamRow, stream}
 use Rattle.format.specs.Headers.{fileHeader, infoHeader}
 use Rattle.format.specs.Input.{Input}
-use Rattle.format.specs.File.{rawBytes, streamOf, maxFile, budget, streamUsed, pixels, tableEntry, colourTable, compressionOf, imageSize, headOf, fileSize, fileOf, plainSize, boundOf, formatOf}
+use Rattle.format.specs.File.{rawBytes, streamOf, maxFile, limitIn, budget, streamUsed, pixels, tableEntry, colourTable, compressionOf, imageSize, headOf, fileSize, fileOf, plainSize, boundOf, formatOf}
 use Rattle.format.specs.Layout.{modeOf, tailIn, depthOf, tableEntries, headRest, headLen, rawLen, rowsCompression, rowsFormat, wantsRle}
 use Rattle.format.specs.Refusals.{givenMasksRows, checkRows, planRows}
 use Rattle.format.proofs.ExampleInputs.{sevens}
@@ -39,7 +39,7 @@ found (row depth indices result) = rowCodes depth indices
 found (sample bits value result) = fit bits value ∷ []
 found (stride width depth result) = rowStride width depth ∷ []
 found (masks depth four result) = firstNumber (bitfieldsRows depth four) ∷ []
-found (file input bound size result) = boundOf maxFile input ∷ fileSize maxFile input ∷ fileOf maxFile input
+found (file input bound size result) = boundOf (limitIn input) input ∷ fileSize (limitIn input) input ∷ fileOf (limitIn input) input
 
 -- what document 01 prints, with M9's third number and M12's image size of document 02
 unfoldable pub printed : Example → List ℕ
@@ -103,5 +103,5 @@ four-wide = (refl, refl, refl, refl)
 
 -- "Plane one byte short in its last row's padding: 12": 7 bytes hold all four cells of a row of stride 8
 pub one-byte-short : firstNumber (planRows maxFile (sevens 4 8 7)) ≡ 12
-unfolding planRows checkRows dimensionRows paletteRows modeRows givenMasksRows planeRows
+unfolding planRows checkRows dimensionRows settingsRows paletteRows modeRows givenMasksRows planeRows
 one-byte-short = refl

@@ -21,11 +21,11 @@ use Rattle.rows.specs.Packing.{digits, packedByte, packed}
 use Rattle.rows.specs.StoredRows.{padded, cell24, cell32, field, maskWord, maskCell, storedRow, storedRows}
 use Rattle.format.specs.Headers.{dwords, fileHeader, infoHeader, v4Fields, v5Fields, longs}
 use Rattle.format.specs.Input.{Input}
-use Rattle.format.specs.File.{maxFile, streamUsed, storedRowsOf, pixels, tableEntry, colourTable, compressionOf, imageSize, headOf, fileSize, fileOf, plainSize, boundOf, formatOf}
+use Rattle.format.specs.File.{limitIn, streamUsed, storedRowsOf, pixels, tableEntry, colourTable, compressionOf, imageSize, headOf, fileSize, fileOf, plainSize, boundOf, formatOf}
 use Rattle.format.specs.Layout.{modeOf, tailIn, depthOf, channelsOf, packOf, tableEntries, maskTail, headRest, headLen, rawLen, rowsCompression, rowsFormat, wantsRle}
 use Rattle.format.specs.Readers.{Reader, older, newer, shows, wordAt, dwordAt, fieldsOf, tableCount, knowsDepth, knowsCompression, pairs, rowLength, cellWord, channel, maskCell as shownCell, plainCell, paletteOf, picture, headNeeds, pixelNeeds, body, readFields, read}
 use Rattle.format.specs.Shown.{rgb}
-use Rattle.format.proofs.ExampleInputs.{oneRow, withMinimal, withIntent, withMasks, withCalibrated, call}
+use Rattle.format.proofs.ExampleInputs.{oneRow, withMinimal, withIntent, withMasks, withCalibrated, call, withSettings}
 
 -- a call, and what is made of it
 pub record Written : Type 0 where
@@ -84,6 +84,11 @@ files =
     (call (oneRow source.Rgba 1 4 false false false) (withMasks 16 (0xF800 ∷ 0x07E0 ∷ 0x001F ∷ 0 ∷ []) false) (10 ∷ 20 ∷ 30 ∷ 40 ∷ []) [] [] [])
     written.Bitfields 70
     (0x42 ∷ 0x4D ∷ 0x46 ∷ 0x00 ∷ 0x00 ∷ 0x00 ∷ 0x00 ∷ 0x00 ∷ 0x00 ∷ 0x00 ∷ 0x42 ∷ 0x00 ∷ 0x00 ∷ 0x00 ∷ 0x28 ∷ 0x00 ∷ 0x00 ∷ 0x00 ∷ 0x01 ∷ 0x00 ∷ 0x00 ∷ 0x00 ∷ 0x01 ∷ 0x00 ∷ 0x00 ∷ 0x00 ∷ 0x01 ∷ 0x00 ∷ 0x10 ∷ 0x00 ∷ 0x03 ∷ 0x00 ∷ 0x00 ∷ 0x00 ∷ 0x04 ∷ 0x00 ∷ 0x00 ∷ 0x00 ∷ 0x13 ∷ 0x0B ∷ 0x00 ∷ 0x00 ∷ 0x13 ∷ 0x0B ∷ 0x00 ∷ 0x00 ∷ 0x00 ∷ 0x00 ∷ 0x00 ∷ 0x00 ∷ 0x00 ∷ 0x00 ∷ 0x00 ∷ 0x00 ∷ 0x00 ∷ 0xF8 ∷ 0x00 ∷ 0x00 ∷ 0xE0 ∷ 0x07 ∷ 0x00 ∷ 0x00 ∷ 0x1F ∷ 0x00 ∷ 0x00 ∷ 0x00 ∷ 0xA3 ∷ 0x08 ∷ 0x00 ∷ 0x00 ∷ [])
+    -- a limit of the file's own bytes, and each resolution in its place
+    ∷ wrote
+    (withSettings 58 (pos 3780) (pos 1) (call (oneRow source.Rgb24 1 3 false false false) defaults (10 ∷ 20 ∷ 30 ∷ []) [] [] []))
+    written.Rgb24 58
+    (0x42 ∷ 0x4D ∷ 0x3A ∷ 0x00 ∷ 0x00 ∷ 0x00 ∷ 0x00 ∷ 0x00 ∷ 0x00 ∷ 0x00 ∷ 0x36 ∷ 0x00 ∷ 0x00 ∷ 0x00 ∷ 0x28 ∷ 0x00 ∷ 0x00 ∷ 0x00 ∷ 0x01 ∷ 0x00 ∷ 0x00 ∷ 0x00 ∷ 0x01 ∷ 0x00 ∷ 0x00 ∷ 0x00 ∷ 0x01 ∷ 0x00 ∷ 0x18 ∷ 0x00 ∷ 0x00 ∷ 0x00 ∷ 0x00 ∷ 0x00 ∷ 0x00 ∷ 0x00 ∷ 0x00 ∷ 0x00 ∷ 0xC4 ∷ 0x0E ∷ 0x00 ∷ 0x00 ∷ 0x01 ∷ 0x00 ∷ 0x00 ∷ 0x00 ∷ 0x00 ∷ 0x00 ∷ 0x00 ∷ 0x00 ∷ 0x00 ∷ 0x00 ∷ 0x00 ∷ 0x00 ∷ 0x1E ∷ 0x14 ∷ 0x0A ∷ 0x00 ∷ [])
     -- a wide red channel beside a narrow green one: the original's last two bytes are 7F FF
     ∷ wrote wideRed written.Bitfields 70 wideFile
     -- top-down, with a minimal palette of 2: the image size 0 and the format of rows that are not coded
@@ -95,7 +100,7 @@ files =
 
 -- what the definitions make of a call
 unfoldable pub found : Input → Written
-found input = wrote input (formatOf maxFile input) (boundOf maxFile input) (fileOf maxFile input)
+found input = wrote input (formatOf (limitIn input) input) (boundOf (limitIn input) input) (fileOf (limitIn input) input)
 
 -- format, bound and file are these
 pub files-hold : map (λ (e : Written). found (e .input)) files ≡ files

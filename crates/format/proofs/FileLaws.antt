@@ -17,7 +17,7 @@ use Rattle.rows.specs.declared.pack.RowPack.the-variants.{Bgra32, Bgr24, Words1
 use Rattle.rows.specs.declared.blocks.Block.{Block}
 use Rattle.rows.specs.declared.blocks.Block.the-variants.{Pair, Absolute}
 use Rattle.leaves.specs.Bytes.{le16, le32}
-use Rattle.format.specs.File.{modeIn, packIn, rlePlanned, rawBytes, entriesOf, headBytes, tailOf, streamOf, maxFile, budget, streamUsed, storedRowsOf, pixels, tableEntry, colourTable, fileSize, fileOf, plainSize, boundOf}
+use Rattle.format.specs.File.{modeIn, packIn, rlePlanned, rawBytes, entriesOf, headBytes, tailOf, streamOf, limitIn, budget, streamUsed, storedRowsOf, pixels, tableEntry, colourTable, fileSize, fileOf, plainSize, boundOf}
 use Rattle.format.specs.Layout.{isProfiled, tailIn, maskTail, headRest, coded}
 use Rattle.leaves.specs.Formats.{bitsPerPixel, isRgb565}
 use Rattle.format.specs.declared.layout.Mode.{Mode}
@@ -46,47 +46,47 @@ unfolding fileHeader le32 le16 dwordAt wordAt
 size-at size off more rest h = dword-bytes size h
 
 -- bfSize is the file's length
-pub size-field : (i : Input) → Accepted i → dwordAt (fileOf maxFile i) 2 ≡ length (fileOf maxFile i)
+pub size-field : (i : Input) → Accepted i → dwordAt (fileOf (limitIn i) i) 2 ≡ length (fileOf (limitIn i) i)
 size-field i a =
     ap (λ (file : List ℕ). dwordAt file 2) (file-parts i)
-    ∙ size-at (fileSize maxFile i) (headBytes i) _ _ (omega (arith, a .fits))
+    ∙ size-at (fileSize (limitIn i) i) (headBytes i) _ _ (omega (arith, a .fits, a .limited))
     ∙ sym (length-file i)
 
 -- ---- the stream
 
 -- a planned stream is used exactly if it is under the budget
 pub stream-used-under-budget : (i : Input) → rlePlanned i ≡ true
-    → (streamUsed maxFile i ≡ true → length (streamOf i) < budget maxFile i) × (length (streamOf i) < budget maxFile i → streamUsed maxFile i ≡ true)
+    → (streamUsed (limitIn i) i ≡ true → length (streamOf i) < budget (limitIn i) i) × (length (streamOf i) < budget (limitIn i) i → streamUsed (limitIn i) i ≡ true)
 unfolding streamUsed
 stream-used-under-budget i e = (
-  λ u. used-in maxFile i u .under,
-  λ l. rw (e, lt-ltb (length (streamOf i)) (budget maxFile i) l),
+  λ u. used-in (limitIn i) i u .under,
+  λ l. rw (e, lt-ltb (length (streamOf i)) (budget (limitIn i) i) l),
 )
 
 -- ---- the bound
 
 -- no stream is used that is not planned
-unplanned : (i : Input) → rlePlanned i ≡ false → streamUsed maxFile i ≡ false
+unplanned : (i : Input) → rlePlanned i ≡ false → streamUsed (limitIn i) i ≡ false
 unfolding streamUsed
 unplanned i e = rw e
 
 -- a file is no longer than its bound
-pub file-within-bound : (i : Input) → Accepted i → fileSize maxFile i ≤ boundOf maxFile i
+pub file-within-bound : (i : Input) → Accepted i → fileSize (limitIn i) i ≤ boundOf (limitIn i) i
 unfolding fileSize pixels plainSize boundOf
-file-within-bound i a = go (rlePlanned i) (streamUsed maxFile i) (leb (plainSize i) maxFile) refl refl refl (a .fits)
+file-within-bound i a = go (rlePlanned i) (streamUsed (limitIn i) i) (leb (plainSize i) (limitIn i)) refl refl refl (a .fits)
   where
     rows : length (storedRowsOf i) ≡ rawBytes i
     rows = length-rows i (a .masks) (a .samples)
 
-    go : (p s f : Bool) → rlePlanned i ≡ p → streamUsed maxFile i ≡ s → leb (plainSize i) maxFile ≡ f
-        → headBytes i + length (cond s (streamOf i) (storedRowsOf i)) + length (tailOf i) ≤ maxFile
+    go : (p s f : Bool) → rlePlanned i ≡ p → streamUsed (limitIn i) i ≡ s → leb (plainSize i) (limitIn i) ≡ f
+        → headBytes i + length (cond s (streamOf i) (storedRowsOf i)) + length (tailOf i) ≤ limitIn i
         → headBytes i + length (cond s (streamOf i) (storedRowsOf i)) + length (tailOf i)
-        ≤ cond p (headBytes i + max (budget maxFile i + 2 * i .source .width + 2) (cond f (rawBytes i) 0)) (plainSize i)
+        ≤ cond p (headBytes i + max (budget (limitIn i) i + 2 * i .source .width + 2) (cond f (rawBytes i) 0)) (plainSize i)
     go false true f e u l fits = absurd (false≢true (sym (unplanned i e) ∙ u))
     go false false f e u l fits = omega (arith, rows)
     go true true f e u l fits = omega (arith, stream-used-under-budget i e .0 u, no-tail i (planned-in i e))
     go true false true e u l fits = omega (arith, rows, no-tail i (planned-in i e))
-    go true false false e u l fits = omega (arith, rows, leb-false (plainSize i) maxFile l)
+    go true false false e u l fits = omega (arith, rows, leb-false (plainSize i) (limitIn i) l)
 
 -- ---- bytes
 
@@ -261,12 +261,12 @@ stream-bytes q w h plane stride = cat-bytes _ h (λ s. joined (codes-bytes q 0 _
 coded-depth : (f : BmpPixelFormat) → coded f ≡ true → Depth (bitsPerPixel f)
 coded-depth = coded-cases (λ (f : BmpPixelFormat). Depth (bitsPerPixel f)) (depth 8 refl) (depth 4 refl)
 
-pixel-bytes : (i : Input) → Accepted i → Bytes (pixels maxFile i)
+pixel-bytes : (i : Input) → Accepted i → Bytes (pixels (limitIn i) i)
 unfolding pixels streamOf
-pixel-bytes i a = go (streamUsed maxFile i) refl
+pixel-bytes i a = go (streamUsed (limitIn i) i) refl
   where
-    go : (b : Bool) → streamUsed maxFile i ≡ b → Bytes (cond b (streamOf i) (storedRowsOf i))
-    go true e = stream-bytes (coded-depth (i .source .format) (used-in maxFile i e .planned .source)) _ _ _ _
+    go : (b : Bool) → streamUsed (limitIn i) i ≡ b → Bytes (cond b (streamOf i) (storedRowsOf i))
+    go true e = stream-bytes (coded-depth (i .source .format) (used-in (limitIn i) i e .planned .source)) _ _ _ _
     go false e = rows-bytes i a
 
 tail-bytes : (mode : Mode) (given : Bool) (icc linked : List ℕ) → Bytes icc → Bytes linked → Bytes (tailIn mode given icc linked)
@@ -274,9 +274,9 @@ unfolding tailIn
 tail-bytes mode given icc linked a b = either (isProfiled mode) _ _ (either given linked icc b a) none
 
 -- every number of the file is a byte, if the profiles' are
-pub file-bytes : (i : Input) → Accepted i → ((k : ℕ) → getD (i .icc) k 0 < 256) → ((k : ℕ) → getD (i .linked) k 0 < 256) → (k : ℕ) → getD (fileOf maxFile i) k 0 < 256
+pub file-bytes : (i : Input) → Accepted i → ((k : ℕ) → getD (i .icc) k 0 < 256) → ((k : ℕ) → getD (i .linked) k 0 < 256) → (k : ℕ) → getD (fileOf (limitIn i) i) k 0 < 256
 file-bytes i a icc linked =
-    let all : Bytes (firstPart i (fileSize maxFile i) ++ (restPart i ++ (colourTable i ++ (pixels maxFile i ++ tailOf i)))) =
+    let all : Bytes (firstPart i (fileSize (limitIn i) i) ++ (restPart i ++ (colourTable i ++ (pixels (limitIn i) i ++ tailOf i)))) =
     joined (joined (file-header _ _) (info-header _ _ _ _ _ _ _ _ _))
     (joined (rest-bytes (modeIn i) (i .source) (i .options) _ _) (joined (table-bytes i a) (joined (pixel-bytes i a) (tail-bytes (modeIn i) _ _ _ (record { each = icc }) (record { each = linked }))))) in
     subst Bytes (sym (file-parts i)) all .each

@@ -14,7 +14,7 @@ use Rattle.leaves.specs.declared.options.EncodeOptions.{EncodeOptions}
 use Rattle.leaves.specs.declared.image.BmpPixelFormat.{BmpPixelFormat}
 use Rattle.leaves.specs.declared.image.BmpPixelFormat.the-variants.{Rgba, Rgb24, Bgra, Bgr24, Rgb555, Rgb565, Pal8, Indexed4, Indexed2, Indexed1}
 use Rattle.leaves.specs.Bytes.{le16, le32}
-use Rattle.format.specs.File.{modeIn, depthIn, rawBytes, entriesOf, headBytes, tailOf, maxFile, streamUsed, pixels, tableEntry, colourTable, storedHeight, compressionOf, imageSize, pelsPerMeter, headOf, fileSize, fileOf}
+use Rattle.format.specs.File.{modeIn, depthIn, rawBytes, entriesOf, headBytes, tailOf, limitIn, streamUsed, pixels, tableEntry, colourTable, storedHeight, compressionOf, imageSize, xPelsIn, yPelsIn, headOf, fileSize, fileOf}
 use Rattle.format.specs.Layout.{depthOf, headerSize, headRest, headLen, rowsCompression}
 use Rattle.leaves.specs.Formats.{bitsPerPixel, isRgb565}
 use Rattle.format.specs.declared.layout.Mode.{Mode}
@@ -73,10 +73,10 @@ header-le Profiled f = omega arith
 header-le Plain f = choice-le (isRgb565 f) 108 40 124 (omega arith) (omega arith)
 
 -- a compression is at most 6
-compression-le : (i : Input) → compressionOf maxFile i ≤ 6
+compression-le : (i : Input) → compressionOf (limitIn i) i ≤ 6
 unfolding compressionOf rowsCompression
 compression-le i =
-    choice-le (streamUsed maxFile i) _ _ 6 (choice-le (eqb (bitsPerPixel (i .source .format)) 8) 1 2 6 (omega arith) (omega arith))
+    choice-le (streamUsed (limitIn i) i) _ _ 6 (choice-le (eqb (bitsPerPixel (i .source .format)) 8) 1 2 6 (omega arith) (omega arith))
     (choice-le (i .options .«has_bitfields») _ _ 6 (choice-le (hasAlphaMask (i .options .bitfields .masks)) 6 3 6 (omega arith) (omega arith))
     (choice-le (isRgb565 (i .source .format)) 3 0 6 (omega arith) (omega arith)))
 
@@ -119,7 +119,7 @@ colours-le depth entries = go (ltb entries (paletteEntryCount depth)) refl
 -- the head is no longer than the file
 head-le : (i : Input) → Accepted i → headBytes i ≤ 4294967295
 unfolding fileSize
-head-le i a = omega (arith, a .fits)
+head-le i a = omega (arith, a .fits, a .limited)
 
 -- ---- the parts
 
@@ -127,8 +127,8 @@ head-le i a = omega (arith, a .fits)
 abbrev pub firstPart : Input → ℕ → List ℕ
 firstPart i n =
     fileHeader n (headBytes i)
-    ++ infoHeader (headerSize (modeIn i) (i .source .format)) (i .source .width) (storedHeight i) (depthIn i) (compressionOf maxFile i)
-    (imageSize maxFile i) pelsPerMeter pelsPerMeter (clrUsed (depthIn i) (entriesOf i))
+    ++ infoHeader (headerSize (modeIn i) (i .source .format)) (i .source .width) (storedHeight i) (depthIn i) (compressionOf (limitIn i) i)
+    (imageSize (limitIn i) i) (xPelsIn i) (yPelsIn i) (clrUsed (depthIn i) (entriesOf i))
 
 -- what stands between them and the table
 abbrev pub restPart : Input → List ℕ
@@ -136,7 +136,7 @@ restPart i = headRest (modeIn i) (i .source) (i .options) (length (tailOf i)) (h
 
 -- the file by its parts
 pub file-parts : (i : Input)
-    → fileOf maxFile i ≡ firstPart i (fileSize maxFile i) ++ (restPart i ++ (colourTable i ++ (pixels maxFile i ++ tailOf i)))
+    → fileOf (limitIn i) i ≡ firstPart i (fileSize (limitIn i) i) ++ (restPart i ++ (colourTable i ++ (pixels (limitIn i) i ++ tailOf i)))
 unfolding fileOf headOf
 file-parts i = simp append-assoc
 
@@ -179,25 +179,25 @@ unfolding headLen
 length-head i c im x y n = head-parts i c im x y n ∙ omega arith
 
 -- the pixels stand where the head ends
-pub pixels-at : (i : Input) → drop (headBytes i) (fileOf maxFile i) ≡ pixels maxFile i ++ tailOf i
+pub pixels-at : (i : Input) → drop (headBytes i) (fileOf (limitIn i) i) ≡ pixels (limitIn i) i ++ tailOf i
 unfolding fileOf
 pixels-at i =
     rw append-assoc
-    (drop-at (headOf i (compressionOf maxFile i) (imageSize maxFile i) pelsPerMeter pelsPerMeter (fileSize maxFile i)) (pixels maxFile i ++ tailOf i) (headBytes i)
-    (length-head i (compressionOf maxFile i) (imageSize maxFile i) pelsPerMeter pelsPerMeter (fileSize maxFile i)))
+    (drop-at (headOf i (compressionOf (limitIn i) i) (imageSize (limitIn i) i) (xPelsIn i) (yPelsIn i) (fileSize (limitIn i) i)) (pixels (limitIn i) i ++ tailOf i) (headBytes i)
+    (length-head i (compressionOf (limitIn i) i) (imageSize (limitIn i) i) (xPelsIn i) (yPelsIn i) (fileSize (limitIn i) i)))
 
--- a call's file with this image size
-abbrev pub fileWith : ℕ → Input → ℕ → List ℕ
-fileWith limit i n = headOf i (compressionOf limit i) n pelsPerMeter pelsPerMeter (fileSize limit i) ++ pixels limit i ++ tailOf i
+-- a call's file with this image size and these resolutions
+abbrev pub fileWith : ℕ → Input → ℕ → ℕ → ℕ → List ℕ
+fileWith limit i n x y = headOf i (compressionOf limit i) n x y (fileSize limit i) ++ pixels limit i ++ tailOf i
 
 -- is as long as its size says
-pub length-with : (limit : ℕ) (i : Input) (n : ℕ) → length (fileWith limit i n) ≡ fileSize limit i
+pub length-with : (limit : ℕ) (i : Input) (n x y : ℕ) → length (fileWith limit i n x y) ≡ fileSize limit i
 unfolding fileSize
-length-with limit i n = simp (length-append, length-head i (compressionOf limit i) n pelsPerMeter pelsPerMeter (fileSize limit i)) (omega arith)
+length-with limit i n x y = simp (length-append, length-head i (compressionOf limit i) n x y (fileSize limit i)) (omega arith)
 
-pub length-file : (i : Input) → length (fileOf maxFile i) ≡ fileSize maxFile i
+pub length-file : (i : Input) → length (fileOf (limitIn i) i) ≡ fileSize (limitIn i) i
 unfolding fileOf
-length-file i = length-with maxFile i (imageSize maxFile i)
+length-file i = length-with (limitIn i) i (imageSize (limitIn i) i) (xPelsIn i) (yPelsIn i)
 
 -- ---- the file's fields
 
@@ -210,17 +210,17 @@ fieldsIn i =
       width = i .source .width;
       height = storedHeight i;
       depth = depthIn i;
-      compression = compressionOf maxFile i;
+      compression = compressionOf (limitIn i) i;
       colours = clrUsed (depthIn i) (entriesOf i);
     }
 
 -- are the ones that the readers take
-pub fields-read : (i : Input) → Accepted i → fieldsOf (fileOf maxFile i) ≡ fieldsIn i
+pub fields-read : (i : Input) → Accepted i → fieldsOf (fileOf (limitIn i) i) ≡ fieldsIn i
 fields-read i a =
     rw (file-parts i)
-    (first-fields (fileSize maxFile i) (headBytes i) (headerSize (modeIn i) (i .source .format)) (i .source .width) (storedHeight i) (depthIn i)
-    (compressionOf maxFile i) (imageSize maxFile i) pelsPerMeter pelsPerMeter (clrUsed (depthIn i) (entriesOf i))
-    (restPart i ++ (colourTable i ++ (pixels maxFile i ++ tailOf i))) (omega (arith, head-le i a))
+    (first-fields (fileSize (limitIn i) i) (headBytes i) (headerSize (modeIn i) (i .source .format)) (i .source .width) (storedHeight i) (depthIn i)
+    (compressionOf (limitIn i) i) (imageSize (limitIn i) i) (xPelsIn i) (yPelsIn i) (clrUsed (depthIn i) (entriesOf i))
+    (restPart i ++ (colourTable i ++ (pixels (limitIn i) i ++ tailOf i))) (omega (arith, head-le i a))
     (omega (arith, header-le (modeIn i) (i .source .format))) (omega (arith, a .wide)) (height-lt (i .options .«top_down») (i .source .height) (a .some-height) (a .tall))
     (omega (arith, depth-le (i .source) (i .options) (λ e. a .masks e .depths))) (omega (arith, compression-le i))
     (omega (arith, colours-le (depthIn i) (entriesOf i))))

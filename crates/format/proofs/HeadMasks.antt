@@ -10,7 +10,7 @@ use Rattle.leaves.specs.Bytes.{le16, le32}
 use Rattle.leaves.specs.Masks.{hasAlphaMask}
 use Rattle.format.specs.Headers.{dwords, fileHeader, infoHeader, v4Fields, v5Fields, longs}
 use Rattle.format.specs.Input.{Input}
-use Rattle.format.specs.File.{modeIn, rawBytes, headBytes, tailOf, maxFile, pixels, colourTable, fileSize, fileOf}
+use Rattle.format.specs.File.{modeIn, rawBytes, headBytes, tailOf, limitIn, pixels, colourTable, fileSize, fileOf}
 use Rattle.format.specs.Layout.{isMasked, longMasks, maskTail, headRest}
 use Rattle.leaves.specs.Formats.{isRgb565, maskSource}
 use Rattle.format.specs.declared.layout.Mode.{Mode}
@@ -59,14 +59,14 @@ alpha-bytes masks more e = mask-bytes masks more ∙ rw e
 module _ (i : Input) where
   -- what follows the masks
   abbrev pub afterRest : List ℕ
-  afterRest = colourTable i ++ (pixels maxFile i ++ tailOf i)
+  afterRest = colourTable i ++ (pixels (limitIn i) i ++ tailOf i)
 
   -- the file by its mode
   pub mode-file : (m : Mode) → modeIn i ≡ m
-      → fileOf maxFile i ≡ firstPart i (fileSize maxFile i) ++ (headRest m (i .source) (i .options) (length (tailOf i)) (headBytes i - 14 + rawBytes i) ++ afterRest)
+      → fileOf (limitIn i) i ≡ firstPart i (fileSize (limitIn i) i) ++ (headRest m (i .source) (i .options) (length (tailOf i)) (headBytes i - 14 + rawBytes i) ++ afterRest)
   mode-file m e =
       file-parts i
-      ∙ ap (λ (n : Mode). firstPart i (fileSize maxFile i) ++ (headRest n (i .source) (i .options) (length (tailOf i)) (headBytes i - 14 + rawBytes i) ++ afterRest)) e
+      ∙ ap (λ (n : Mode). firstPart i (fileSize (limitIn i) i) ++ (headRest n (i .source) (i .options) (length (tailOf i)) (headBytes i - 14 + rawBytes i) ++ afterRest)) e
 
   module _ (a : Accepted i) where
     -- every mask has 32 bits
@@ -75,21 +75,21 @@ module _ (i : Input) where
 
     -- the colour masks are the ones handed in
     pub masks-read : i .options .«has_bitfields» ≡ true
-        → ColourMasks (fileOf maxFile i) (getD (i .options .bitfields .masks) 0 0) (getD (i .options .bitfields .masks) 1 0) (getD (i .options .bitfields .masks) 2 0)
+        → ColourMasks (fileOf (limitIn i) i) (getD (i .options .bitfields .masks) 0 0) (getD (i .options .bitfields .masks) 1 0) (getD (i .options .bitfields .masks) 2 0)
     unfolding headRest
     masks-read e =
         rw (mode-file Masked (mask-mode i e), mask-bytes (i .options .bitfields .masks) afterRest)
-        (behind i (fileSize maxFile i) (getD (i .options .bitfields .masks) 0 0) (getD (i .options .bitfields .masks) 1 0) (getD (i .options .bitfields .masks) 2 0)
+        (behind i (fileSize (limitIn i) i) (getD (i .options .bitfields .masks) 0 0) (getD (i .options .bitfields .masks) 1 0) (getD (i .options .bitfields .masks) 2 0)
         (dwords (cond (hasAlphaMask (i .options .bitfields .masks)) (getD (i .options .bitfields .masks) 3 0 ∷ []) []) ++ afterRest)
         (small e 0 (omega arith)) (small e 1 (omega arith)) (small e 2 (omega arith)))
 
     -- and so is a nonzero alpha mask
     pub alpha-read : i .options .«has_bitfields» ≡ true → hasAlphaMask (i .options .bitfields .masks) ≡ true
-        → dwordAt (fileOf maxFile i) 66 ≡ getD (i .options .bitfields .masks) 3 0
+        → dwordAt (fileOf (limitIn i) i) 66 ≡ getD (i .options .bitfields .masks) 3 0
     unfolding headRest
     alpha-read e h =
         rw (mode-file Masked (mask-mode i e), alpha-bytes (i .options .bitfields .masks) afterRest h)
-        (fourth i (fileSize maxFile i) (getD (i .options .bitfields .masks) 0 0) (getD (i .options .bitfields .masks) 1 0) (getD (i .options .bitfields .masks) 2 0)
+        (fourth i (fileSize (limitIn i) i) (getD (i .options .bitfields .masks) 0 0) (getD (i .options .bitfields .masks) 1 0) (getD (i .options .bitfields .masks) 2 0)
         (getD (i .options .bitfields .masks) 3 0) afterRest (small e 3 (omega arith)))
 
 -- ---- Rgb565
@@ -121,10 +121,10 @@ mode-565 i n size at more Plain never e =
     tested-masks i n (longMasks (i .source .format)) 0x73524742 (replicate 9 0) (replicate 3 0) more (isRgb565 (i .source .format)) (ap isRgb565 e) (ap longMasks e)
 
 -- an accepted Rgb565 source has no masks of its own, and the file has those of Rgb565
-pub rgb565-read : (i : Input) → Accepted i → i .source .format ≡ Rgb565 → ColourMasks (fileOf maxFile i) 0xF800 0x07E0 0x001F
+pub rgb565-read : (i : Input) → Accepted i → i .source .format ≡ Rgb565 → ColourMasks (fileOf (limitIn i) i) 0xF800 0x07E0 0x001F
 rgb565-read i a e =
     rw (mode-file i (modeIn i) refl)
-    (mode-565 i (fileSize maxFile i) (length (tailOf i)) (headBytes i - 14 + rawBytes i) (afterRest i) (modeIn i) (unmasked (isMasked (modeIn i)) (given-mode (i .source) (i .options))) e)
+    (mode-565 i (fileSize (limitIn i) i) (length (tailOf i)) (headBytes i - 14 + rawBytes i) (afterRest i) (modeIn i) (unmasked (isMasked (modeIn i)) (given-mode (i .source) (i .options))) e)
   where
     unmasked : (b : Bool) → i .options .«has_bitfields» ≡ b → b ≡ false
     unmasked true q = absurd (false≢true (sym (a .samples q) ∙ ap maskSource e))

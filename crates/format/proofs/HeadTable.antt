@@ -17,7 +17,7 @@ use Rattle.leaves.specs.declared.options.EncodeOptions.{EncodeOptions}
 use Rattle.leaves.specs.declared.image.BmpPixelFormat.{BmpPixelFormat}
 use Rattle.leaves.specs.declared.image.BmpPixelFormat.the-variants.{Rgba, Rgb24, Bgra, Bgr24, Rgb555, Rgb565, Pal8, Indexed4, Indexed2, Indexed1}
 use Rattle.leaves.specs.Bytes.{le32}
-use Rattle.format.specs.File.{modeIn, depthIn, rawBytes, entriesOf, headBytes, tailOf, maxFile, pixels, tableEntry, colourTable, fileSize, fileOf}
+use Rattle.format.specs.File.{modeIn, depthIn, rawBytes, entriesOf, headBytes, tailOf, limitIn, pixels, tableEntry, colourTable, fileSize, fileOf}
 use Rattle.format.specs.Layout.{isMasked, depthOf, tableEntries, headerSize, longMasks, maskTail, headRest}
 use Rattle.leaves.specs.Formats.{bitsPerPixel, isIndexed, isRgb565, maskSource}
 use Rattle.format.specs.declared.layout.Mode.{Mode}
@@ -205,7 +205,7 @@ module _ (i : Input) (a : Accepted i) where
       go false e = plain-count (i .source .format) (length (i .palette) / 4) (i .options .«minimal_palette»)
 
   -- the readers count the entries written
-  pub count-read : tableCount (fieldsOf (fileOf maxFile i)) ≡ entriesOf i
+  pub count-read : tableCount (fieldsOf (fileOf (limitIn i) i)) ≡ entriesOf i
   unfolding tableCount
   count-read = rw (fields-read i a) entry-count
 
@@ -230,37 +230,37 @@ module _ (i : Input) (a : Accepted i) where
 
   -- byte j of entry k, by its place behind the header
   table-byte : (k j q : ℕ) → k < entriesOf i → j < 4 → q ≡ 14 + headerSize (modeIn i) (i .source .format) + (k * 4 + j)
-      → getD (fileOf maxFile i) q 0 ≡ getD (tableEntry (i .palette) k) j 0
+      → getD (fileOf (limitIn i) i) q 0 ≡ getD (tableEntry (i .palette) k) j 0
   unfolding colourTable tableEntry
   table-byte k j q h l e =
       let n : ℕ = length (headRest (modeIn i) (i .source) (i .options) 0 0) in
       let place : q ≡ 54 + (n + (k * 4 + j)) = omega (arith, header-fills (i .source) (i .options) (a .nine-endpoints) (a .three-gammas) (modeIn i) (entry-plain k h)) in
       rw (file-parts i, place)
-      (past (firstPart i (fileSize maxFile i)) (restPart i ++ (colourTable i ++ (pixels maxFile i ++ tailOf i))) 54
-      (n + (k * 4 + j)) (first-length i (fileSize maxFile i))
-      ∙ past (restPart i) (colourTable i ++ (pixels maxFile i ++ tailOf i)) n (k * 4 + j)
+      (past (firstPart i (fileSize (limitIn i) i)) (restPart i ++ (colourTable i ++ (pixels (limitIn i) i ++ tailOf i))) 54
+      (n + (k * 4 + j)) (first-length i (fileSize (limitIn i) i))
+      ∙ past (restPart i) (colourTable i ++ (pixels (limitIn i) i ++ tailOf i)) n (k * 4 + j)
       (rest-length (modeIn i) (i .source) (i .options) (length (tailOf i)) (headBytes i - 14 + rawBytes i))
-      ∙ List·getD-append (colourTable i) (pixels maxFile i ++ tailOf i) 0 (k * 4 + j) (omega (arith, table-length i))
+      ∙ List·getD-append (colourTable i) (pixels (limitIn i) i ++ tailOf i) 0 (k * 4 + j) (omega (arith, table-length i))
       ∙ getD-cat (tableEntry (i .palette)) 4 (entriesOf i) k j 0 (λ n m. refl) l h)
 
   -- as many entries are read as must be shown
-  colours-read : tableCount (fieldsOf (fileOf maxFile i)) ≡ coloursShown (i .source .format) (length (i .palette) / 4) (i .options .«minimal_palette»)
+  colours-read : tableCount (fieldsOf (fileOf (limitIn i) i)) ≡ coloursShown (i .source .format) (length (i .palette) / 4) (i .options .«minimal_palette»)
   unfolding tableEntries
   colours-read = count-read i a ∙ entries-shown (i .source .format) (length (i .palette) / 4) (i .options .«minimal_palette»)
 
   -- the readers' palette is the one handed in
-  pub palette-read : paletteOf (fileOf maxFile i) (fieldsOf (fileOf maxFile i)) ≡ paletteShown i
+  pub palette-read : paletteOf (fileOf (limitIn i) i) (fieldsOf (fileOf (limitIn i) i)) ≡ paletteShown i
   unfolding paletteOf paletteShown tableEntry
   palette-read =
       rw colours-read
       (tab-ext _ _ (coloursShown (i .source .format) (length (i .palette) / 4) (i .options .«minimal_palette»)) (λ k l.
       let here : k < entriesOf i = omega (arith, colours-read, count-read i a) in
-      let size : fieldsOf (fileOf maxFile i) .headerSize ≡ headerSize (modeIn i) (i .source .format) = ap (λ (t : Fields). t .headerSize) (fields-read i a) in
+      let size : fieldsOf (fileOf (limitIn i) i) .headerSize ≡ headerSize (modeIn i) (i .source .format) = ap (λ (t : Fields). t .headerSize) (fields-read i a) in
       let four : k * 4 ≡ 4 * k = omega arith in
-      let red : getD (fileOf maxFile i) (14 + fieldsOf (fileOf maxFile i) .headerSize + k * 4 + 2) 0 ≡ getD (i .palette) (4 * k) 0
+      let red : getD (fileOf (limitIn i) i) (14 + fieldsOf (fileOf (limitIn i) i) .headerSize + k * 4 + 2) 0 ≡ getD (i .palette) (4 * k) 0
       = table-byte k 2 _ here (omega arith) (omega arith) ∙ ap (λ (z : ℕ). getD (i .palette) z 0) four in
-      let green : getD (fileOf maxFile i) (14 + fieldsOf (fileOf maxFile i) .headerSize + k * 4 + 1) 0 ≡ getD (i .palette) (4 * k + 1) 0
+      let green : getD (fileOf (limitIn i) i) (14 + fieldsOf (fileOf (limitIn i) i) .headerSize + k * 4 + 1) 0 ≡ getD (i .palette) (4 * k + 1) 0
       = table-byte k 1 _ here (omega arith) (omega arith) ∙ ap (λ (z : ℕ). getD (i .palette) (z + 1) 0) four in
-      let blue : getD (fileOf maxFile i) (14 + fieldsOf (fileOf maxFile i) .headerSize + k * 4) 0 ≡ getD (i .palette) (4 * k + 2) 0
+      let blue : getD (fileOf (limitIn i) i) (14 + fieldsOf (fileOf (limitIn i) i) .headerSize + k * 4) 0 ≡ getD (i .palette) (4 * k + 2) 0
       = table-byte k 0 _ here (omega arith) (omega arith) ∙ ap (λ (z : ℕ). getD (i .palette) (z + 2) 0) four in
       λ z. rgb (red z) (green z) (blue z)))

@@ -8,7 +8,7 @@ use lib.Dec.{eqb}
 use lib.ListN.{length, getD}
 use Rattle.leaves.specs.declared.image.BmpPixelFormat.{BmpPixelFormat}
 use Rattle.leaves.specs.Bytes.{le32}
-use Rattle.format.specs.File.{modeIn, entriesOf, maxFile, streamUsed, compressionOf, fileSize, fileOf}
+use Rattle.format.specs.File.{modeIn, entriesOf, limitIn, streamUsed, compressionOf, fileSize, fileOf}
 use Rattle.format.specs.Layout.{isMasked, headerSize, maskTail, headRest, headLen, plainCompression, rowsCompression}
 use Rattle.leaves.specs.Formats.{bitsPerPixel, isRgb565}
 use Rattle.format.specs.declared.layout.Mode.{Mode}
@@ -61,9 +61,9 @@ module _ (i : Input) (a : Accepted i) where
   fills = header-fills (i .source) (i .options) (a .nine-endpoints) (a .three-gammas)
 
   -- the masks stand in the head
-  masks-inside : masksEnd (compressionOf maxFile i) ≤ 54 + restBytes
+  masks-inside : masksEnd (compressionOf (limitIn i) i) ≤ 54 + restBytes
   unfolding compressionOf rowsCompression headRest maskTail
-  masks-inside = go (streamUsed maxFile i) (i .options .«has_bitfields») refl
+  masks-inside = go (streamUsed (limitIn i) i) (i .options .«has_bitfields») refl
     where
       masks : List ℕ
       masks = i .options .bitfields .masks
@@ -84,20 +84,20 @@ module _ (i : Input) (a : Accepted i) where
   header-inside Plain = omega (arith, fills Plain refl)
 
   -- the head is in the file
-  head-inside : 54 + restBytes + 4 * entriesOf i ≤ length (fileOf maxFile i)
+  head-inside : 54 + restBytes + 4 * entriesOf i ≤ length (fileOf (limitIn i) i)
   unfolding fileSize headLen
   head-inside = rw (length-file i) (omega arith)
 
   -- the fields, masks and table that the readers need are in the file
-  pub head-long : headNeeds (fieldsOf (fileOf maxFile i)) ≤ length (fileOf maxFile i)
+  pub head-long : headNeeds (fieldsOf (fileOf (limitIn i) i)) ≤ length (fileOf (limitIn i) i)
   unfolding headNeeds
   head-long =
-      let count : tableCount (fieldsOf (fileOf maxFile i)) ≡ entriesOf i = count-read i a in
-      let size : fieldsOf (fileOf maxFile i) .headerSize ≡ headerSize (modeIn i) (i .source .format) = ap (λ (t : Fields). t .headerSize) (fields-read i a) in
-      let code : fieldsOf (fileOf maxFile i) .compression ≡ compressionOf maxFile i = ap (λ (t : Fields). t .compression) (fields-read i a) in
+      let count : tableCount (fieldsOf (fileOf (limitIn i) i)) ≡ entriesOf i = count-read i a in
+      let size : fieldsOf (fileOf (limitIn i) i) .headerSize ≡ headerSize (modeIn i) (i .source .format) = ap (λ (t : Fields). t .headerSize) (fields-read i a) in
+      let code : fieldsOf (fileOf (limitIn i) i) .compression ≡ compressionOf (limitIn i) i = ap (λ (t : Fields). t .compression) (fields-read i a) in
       rw (count, size, code) (omega (arith, head-inside, header-inside (modeIn i), masks-inside))
 
 -- the readers' first fields are in every file
-pub first-there : (i : Input) → 54 ≤ length (fileOf maxFile i)
+pub first-there : (i : Input) → 54 ≤ length (fileOf (limitIn i) i)
 unfolding fileSize headLen
 first-there i = rw (length-file i) (omega arith)

@@ -17,7 +17,7 @@ use Rattle.leaves.specs.Refusals.{firstOf}
 use Rattle.format.specs.declared.layout.Mode.{Mode}
 use Rattle.format.specs.declared.layout.Mode.the-variants.{Masked, Calibrated, Profiled, Plain}
 use Rattle.format.specs.Accepted.{Accepted}
-use Rattle.format.specs.File.{modeIn, rawBytes, headBytes, tailOf, maxFile, streamUsed, storedRowsOf, pixels, compressionOf, imageSize, pelsPerMeter, headOf, fileSize, fileOf}
+use Rattle.format.specs.File.{modeIn, rawBytes, headBytes, tailOf, limitIn, streamUsed, storedRowsOf, pixels, compressionOf, imageSize, xPelsIn, yPelsIn, headOf, fileSize, fileOf}
 use Rattle.format.specs.Headers.{fileHeader, infoHeader}
 use Rattle.format.specs.Input.{Input}
 use Rattle.format.specs.Layout.{isMasked, isProfiled, headerSize, rowsCompression}
@@ -34,29 +34,29 @@ earlierSize i = cond (eqb (headerSize (modeIn i) (i .source .format)) 40) 0 (raw
 
 -- the file with it
 unfoldable pub earlierFile : ℕ → Input → List ℕ
-earlierFile limit i = fileWith limit i (earlierSize i)
+earlierFile limit i = fileWith limit i (earlierSize i) (xPelsIn i) (yPelsIn i)
 
 -- ---- fields of a file
 
 -- four bytes put at biSizeImage are another image size, and nothing else
-put-image : (limit : ℕ) (i : Input) (n v : ℕ) → put (fileWith limit i n) 34 (le32 v) ≡ fileWith limit i v
+pub put-image : (limit : ℕ) (i : Input) (n x y v : ℕ) → put (fileWith limit i n x y) 34 (le32 v) ≡ fileWith limit i v x y
 unfolding put headOf fileHeader infoHeader le16 le32
-put-image limit i n v = refl
+put-image limit i n x y v = refl
 
 -- read there they are the image size
-image-at : (limit : ℕ) (i : Input) (n : ℕ) → n < 4294967296 → dwordAt (fileWith limit i n) 34 ≡ n
+image-at : (limit : ℕ) (i : Input) (n x y : ℕ) → n < 4294967296 → dwordAt (fileWith limit i n x y) 34 ≡ n
 unfolding dwordAt wordAt headOf fileHeader infoHeader le16 le32
-image-at limit i n h = dword-bytes n h
+image-at limit i n x y h = dword-bytes n h
 
 -- bfOffBits is where the head ends, whatever follows it
 pub offset-at : (i : Input) (c n x y size : ℕ) (rest : List ℕ) → headBytes i < 4294967296 → dwordAt (headOf i c n x y size ++ rest) 10 ≡ headBytes i
 unfolding dwordAt wordAt headOf fileHeader infoHeader le16 le32
 offset-at i c n x y size rest h = dword-bytes (headBytes i) h
 
-offset-with : (limit : ℕ) (i : Input) (n : ℕ) → headBytes i < 4294967296 → dwordAt (fileWith limit i n) 10 ≡ headBytes i
-offset-with limit i n h =
-    ap (λ (file : List ℕ). dwordAt file 10) (append-assoc (headOf i (compressionOf limit i) n pelsPerMeter pelsPerMeter (fileSize limit i)) (pixels limit i) (tailOf i))
-    ∙ offset-at i (compressionOf limit i) n pelsPerMeter pelsPerMeter (fileSize limit i) (pixels limit i ++ tailOf i) h
+offset-with : (limit : ℕ) (i : Input) (n x y : ℕ) → headBytes i < 4294967296 → dwordAt (fileWith limit i n x y) 10 ≡ headBytes i
+offset-with limit i n x y h =
+    ap (λ (file : List ℕ). dwordAt file 10) (append-assoc (headOf i (compressionOf limit i) n x y (fileSize limit i)) (pixels limit i) (tailOf i))
+    ∙ offset-at i (compressionOf limit i) n x y (fileSize limit i) (pixels limit i ++ tailOf i) h
 
 -- ---- the image size of each file
 
@@ -127,69 +127,69 @@ module _ (limit : ℕ) (i : Input) (c : 0 < compressionOf limit i) (h : headerSi
   ends-with-pixels = omega (arith, compressed-size limit i c, ap length (unprofiled-tail i (short-header (modeIn i) (i .source .format) h)))
 
   -- and its length less its pixel offset is the image size, whatever stands in the field
-  pub found-size : headBytes i < 4294967296 → (n : ℕ) → length (fileWith limit i n) - dwordAt (fileWith limit i n) 10 ≡ imageSize limit i
-  found-size small n = omega (arith, length-with limit i n, offset-with limit i n small, ends-with-pixels)
+  pub found-size : headBytes i < 4294967296 → (n x y : ℕ) → length (fileWith limit i n x y) - dwordAt (fileWith limit i n x y) 10 ≡ imageSize limit i
+  found-size small n x y = omega (arith, length-with limit i n x y, offset-with limit i n x y small, ends-with-pixels)
 
 -- ---- the theorem
 
 -- whatever the call, the file is the one with document 01's image size, filled in
 pub filled : (limit : ℕ) (i : Input) → fileOf limit i ≡ put (earlierFile limit i) 34 (le32 (imageSize limit i))
 unfolding fileOf earlierFile
-filled limit i = sym (put-image limit i (earlierSize i) (imageSize limit i))
+filled limit i = sym (put-image limit i (earlierSize i) (xPelsIn i) (yPelsIn i) (imageSize limit i))
 
 -- and where that is the same number, the same file
 pub same-size : (limit : ℕ) (i : Input) → imageSize limit i ≡ earlierSize i → fileOf limit i ≡ earlierFile limit i
 unfolding fileOf earlierFile
-same-size limit i e = ap (fileWith limit i) e
+same-size limit i e = ap (λ (n : ℕ). fileWith limit i n (xPelsIn i) (yPelsIn i)) e
 
 -- A.2, of an accepted call
 pub record FilledIn (i : Input) : Type 0 where
   -- no other byte changes
-  pub alone : fileOf maxFile i ≡ put (earlierFile maxFile i) 34 (le32 (imageSize maxFile i))
+  pub alone : fileOf (limitIn i) i ≡ put (earlierFile (limitIn i) i) 34 (le32 (imageSize (limitIn i) i))
   -- nor these with compression 0 or in a longer header
-  pub uncompressed : compressionOf maxFile i ≡ 0 → fileOf maxFile i ≡ earlierFile maxFile i
-  pub long-header : 40 < headerSize (modeIn i) (i .source .format) → fileOf maxFile i ≡ earlierFile maxFile i
+  pub uncompressed : compressionOf (limitIn i) i ≡ 0 → fileOf (limitIn i) i ≡ earlierFile (limitIn i) i
+  pub long-header : 40 < headerSize (modeIn i) (i .source .format) → fileOf (limitIn i) i ≡ earlierFile (limitIn i) i
   -- every compressed file holds the bytes of its pixels, which end the file where the header has 40 bytes
-  pub compressed : 0 < compressionOf maxFile i → dwordAt (fileOf maxFile i) 34 ≡ length (pixels maxFile i)
-  pub to-the-end : 0 < compressionOf maxFile i → headerSize (modeIn i) (i .source .format) ≡ 40
-      → dwordAt (fileOf maxFile i) 10 + dwordAt (fileOf maxFile i) 34 ≡ length (fileOf maxFile i)
+  pub compressed : 0 < compressionOf (limitIn i) i → dwordAt (fileOf (limitIn i) i) 34 ≡ length (pixels (limitIn i) i)
+  pub to-the-end : 0 < compressionOf (limitIn i) i → headerSize (modeIn i) (i .source .format) ≡ 40
+      → dwordAt (fileOf (limitIn i) i) 10 + dwordAt (fileOf (limitIn i) i) 34 ≡ length (fileOf (limitIn i) i)
 
 module _ (i : Input) (a : Accepted i) where
-  zero-size : compressionOf maxFile i ≡ 0 → imageSize maxFile i ≡ earlierSize i
+  zero-size : compressionOf (limitIn i) i ≡ 0 → imageSize (limitIn i) i ≡ earlierSize i
   unfolding imageSize
   zero-size e = rw e
 
-  long-size : 40 < headerSize (modeIn i) (i .source .format) → imageSize maxFile i ≡ earlierSize i
-  long-size h = go (streamUsed maxFile i) (i .options .«has_bitfields») refl refl
+  long-size : 40 < headerSize (modeIn i) (i .source .format) → imageSize (limitIn i) i ≡ earlierSize i
+  long-size h = go (streamUsed (limitIn i) i) (i .options .«has_bitfields») refl refl
     where
-      go : (u m : Bool) → streamUsed maxFile i ≡ u → i .options .«has_bitfields» ≡ m → imageSize maxFile i ≡ earlierSize i
-      go true m e q = absurd (omega (arith, h, planned-header i (used-in maxFile i e .planned)))
+      go : (u m : Bool) → streamUsed (limitIn i) i ≡ u → i .options .«has_bitfields» ≡ m → imageSize (limitIn i) i ≡ earlierSize i
+      go true m e q = absurd (omega (arith, h, planned-header i (used-in (limitIn i) i e .planned)))
       go false true e q = absurd (omega (arith, h, ap (λ (mode : Mode). headerSize mode (i .source .format)) (mask-mode i q)))
-      go false false e q = other-size maxFile i (length-rows i (a .masks) (a .samples)) e q
+      go false false e q = other-size (limitIn i) i (length-rows i (a .masks) (a .samples)) e q
 
-  field-is : 0 < compressionOf maxFile i → dwordAt (fileOf maxFile i) 34 ≡ imageSize maxFile i
+  field-is : 0 < compressionOf (limitIn i) i → dwordAt (fileOf (limitIn i) i) 34 ≡ imageSize (limitIn i) i
   unfolding fileOf fileSize
-  field-is c = image-at maxFile i (imageSize maxFile i) (omega (arith, compressed-size maxFile i c, a .fits))
+  field-is c = image-at (limitIn i) i (imageSize (limitIn i) i) (xPelsIn i) (yPelsIn i) (omega (arith, compressed-size (limitIn i) i c, a .fits, a .limited))
 
-  ends-file : 0 < compressionOf maxFile i → headerSize (modeIn i) (i .source .format) ≡ 40
-      → dwordAt (fileOf maxFile i) 10 + dwordAt (fileOf maxFile i) 34 ≡ length (fileOf maxFile i)
+  ends-file : 0 < compressionOf (limitIn i) i → headerSize (modeIn i) (i .source .format) ≡ 40
+      → dwordAt (fileOf (limitIn i) i) 10 + dwordAt (fileOf (limitIn i) i) 34 ≡ length (fileOf (limitIn i) i)
   unfolding fileOf
   ends-file c h =
-      let ends = ends-with-pixels maxFile i c h in
-      omega (arith, offset-with maxFile i (imageSize maxFile i) (omega (arith, ends, a .fits)), field-is c, length-file i, ends)
+      let ends = ends-with-pixels (limitIn i) i c h in
+      omega (arith, offset-with (limitIn i) i (imageSize (limitIn i) i) (xPelsIn i) (yPelsIn i) (omega (arith, ends, a .fits, a .limited)), field-is c, length-file i, ends)
 
   pub filled-in : FilledIn i
   filled-in =
       record {
-        alone = filled maxFile i;
-        uncompressed = λ e. same-size maxFile i (zero-size e);
-        long-header = λ h. same-size maxFile i (long-size h);
-        compressed = λ c. field-is c ∙ compressed-size maxFile i c;
+        alone = filled (limitIn i) i;
+        uncompressed = λ e. same-size (limitIn i) i (zero-size e);
+        long-header = λ h. same-size (limitIn i) i (long-size h);
+        compressed = λ c. field-is c ∙ compressed-size (limitIn i) i c;
         to-the-end = ends-file;
       }
 
 -- so of a call that no row of the table refuses
 pub filled-of-table : (i : Input) (room offset : ℕ) → ((k : ℕ) → getD (i .plane) k 0 < 256) → ((k : ℕ) → getD (i .palette) k 0 < 256)
-    → length (i .options .«calibrated_rgb» .endpoints) ≡ 9 → length (i .options .«calibrated_rgb» .gamma) ≡ 3 → firstOf (writeRows maxFile i room offset) ≡ Passed
+    → length (i .options .«calibrated_rgb» .endpoints) ≡ 9 → length (i .options .«calibrated_rgb» .gamma) ≡ 3 → firstOf (writeRows (limitIn i) i room offset) ≡ Passed
     → FilledIn i
 filled-of-table i room offset plane palette nine three e = filled-in i (accepted i room offset plane palette nine three e)

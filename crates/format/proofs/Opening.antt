@@ -9,7 +9,7 @@ use lib.Dec.{eqb}
 use lib.ListN.{length}
 use Rattle.leaves.specs.declared.image.BmpPixelFormat.{BmpPixelFormat}
 use Rattle.leaves.specs.declared.image.BmpPixelFormat.the-variants.{Rgba, Rgb24, Bgra, Bgr24, Rgb555, Rgb565, Pal8, Indexed4, Indexed2, Indexed1}
-use Rattle.format.specs.File.{depthIn, maxFile, streamUsed, compressionOf, fileOf}
+use Rattle.format.specs.File.{depthIn, limitIn, streamUsed, compressionOf, fileOf}
 use Rattle.format.specs.Layout.{depthOf, plainCompression, rowsCompression, coded}
 use Rattle.leaves.specs.Formats.{bitsPerPixel, isRgb565, maskSource}
 use Rattle.format.proofs.Modes.{coded-cases, used-in}
@@ -98,9 +98,9 @@ stream-opens =
 
 module _ (i : Input) (a : Accepted i) where
   -- by whether a stream is used, and whether masks are given
-  opens : Opens (twoBits (i .source .format)) (alphaMasked i) (compressionOf maxFile i) (depthIn i)
+  opens : Opens (twoBits (i .source .format)) (alphaMasked i) (compressionOf (limitIn i) i) (depthIn i)
   unfolding compressionOf rowsCompression depthOf
-  opens = go (streamUsed maxFile i) (i .options .«has_bitfields») refl refl
+  opens = go (streamUsed (limitIn i) i) (i .options .«has_bitfields») refl refl
     where
       f : BmpPixelFormat
       f = i .source .format
@@ -108,34 +108,34 @@ module _ (i : Input) (a : Accepted i) where
       masks : List ℕ
       masks = i .options .bitfields .masks
 
-      go : (used given : Bool) → streamUsed maxFile i ≡ used → i .options .«has_bitfields» ≡ given
+      go : (used given : Bool) → streamUsed (limitIn i) i ≡ used → i .options .«has_bitfields» ≡ given
           → Opens (twoBits f) (given && hasAlphaMask masks) (cond used (cond (eqb (bitsPerPixel f) 8) 1 2) (cond given (maskCompression masks) (plainCompression f)))
           (cond given (i .options .bitfields .bpp) (bitsPerPixel f))
-      go true true u e = absurd (false≢true (sym (used-in maxFile i u .planned .unmasked) ∙ e))
-      go true false u e = stream-opens f (used-in maxFile i u .planned .source)
+      go true true u e = absurd (false≢true (sym (used-in (limitIn i) i u .planned .unmasked) ∙ e))
+      go true false u e = stream-opens f (used-in (limitIn i) i u .planned .source)
       go false true u e = masked-opens (twoBits f) (hasAlphaMask masks) (i .options .bitfields .bpp) (not-two f (a .samples e)) (a .masks e .depths)
       go false false u e = rows-open f
 
   -- the readers take the compression and depth that were written
-  file-opens : Opens (twoBits (i .source .format)) (alphaMasked i) (fieldsOf (fileOf maxFile i) .compression) (fieldsOf (fileOf maxFile i) .depth)
+  file-opens : Opens (twoBits (i .source .format)) (alphaMasked i) (fieldsOf (fileOf (limitIn i) i) .compression) (fieldsOf (fileOf (limitIn i) i) .depth)
   file-opens = rw (fields-read i a) opens
 
-  needs-there : headNeeds (fieldsOf (fileOf maxFile i)) ≤ length (fileOf maxFile i)
+  needs-there : headNeeds (fieldsOf (fileOf (limitIn i) i)) ≤ length (fileOf (limitIn i) i)
   needs-there = head-long i a
 
 -- ---- the readers
 
 -- the newer reader opens every file
-pub newer-opens : (i : Input) → Accepted i → read newer (fileOf maxFile i) ≡ body (fileOf maxFile i) (fieldsOf (fileOf maxFile i))
+pub newer-opens : (i : Input) → Accepted i → read newer (fileOf (limitIn i) i) ≡ body (fileOf (limitIn i) i) (fieldsOf (fileOf (limitIn i) i))
 newer-opens i a =
     let o = file-opens i a in
-    read-answer newer (fileOf maxFile i) false false (o .newer-depth) (o .newer-compression) (o .paired) (first-there i) (needs-there i a)
+    read-answer newer (fileOf (limitIn i) i) false false (o .newer-depth) (o .newer-compression) (o .paired) (first-there i) (needs-there i a)
 
 -- the older one refuses two bits by the depth, and an alpha mask by the compression
 pub older-opens : (i : Input) → Accepted i
-    → read older (fileOf maxFile i)
+    → read older (fileOf (limitIn i) i)
     ≡ cond (twoBits (i .source .format)) (refuses unknownDepth)
-    (cond (alphaMasked i) (refuses unknownCompression) (body (fileOf maxFile i) (fieldsOf (fileOf maxFile i))))
+    (cond (alphaMasked i) (refuses unknownCompression) (body (fileOf (limitIn i) i) (fieldsOf (fileOf (limitIn i) i))))
 older-opens i a =
     let o = file-opens i a in
-    read-answer older (fileOf maxFile i) (twoBits (i .source .format)) (alphaMasked i) (o .older-depth) (o .older-compression) (o .paired) (first-there i) (needs-there i a)
+    read-answer older (fileOf (limitIn i) i) (twoBits (i .source .format)) (alphaMasked i) (o .older-depth) (o .older-compression) (o .paired) (first-there i) (needs-there i a)

@@ -11,7 +11,7 @@ use lib.ListN.{length, getD, drop}
 use lib.Seq.{drop-drop}
 use Rattle.leaves.specs.declared.image.BmpPixelFormat.{BmpPixelFormat}
 use Rattle.leaves.specs.declared.image.BmpPixelFormat.the-variants.{Rgba, Rgb24, Bgra, Bgr24, Rgb555, Rgb565, Pal8, Indexed4, Indexed2, Indexed1}
-use Rattle.format.specs.File.{depthIn, packIn, rawBytes, headBytes, tailOf, streamOf, maxFile, streamUsed, storedRowsOf, pixels, compressionOf, fileSize, fileOf}
+use Rattle.format.specs.File.{depthIn, packIn, rawBytes, headBytes, tailOf, streamOf, limitIn, streamUsed, storedRowsOf, pixels, compressionOf, fileSize, fileOf}
 use Rattle.format.specs.Layout.{depthOf, plainPack, maskPack, packOf, rawLen, plainCompression, rowsCompression}
 use Rattle.leaves.specs.Formats.{bytesPerPixel, bitsPerPixel, isRgb565}
 use Rattle.format.proofs.FileSizes.{pack-ok, length-rows}
@@ -129,9 +129,9 @@ shown-by : (i : Input) (y x : ℕ) (b : Bool) → i .options .«has_bitfields» 
 unfolding cellShown
 shown-by i y x b e = ap (λ (z : Bool). cond z (fittedShown (i .source .format) (i .options .bitfields .masks) (handed i y x)) (plainlyShown (i .source .format) (handed i y x))) e
 
-module _ (i : Input) (a : Accepted i) (no : streamUsed maxFile i ≡ false) where
+module _ (i : Input) (a : Accepted i) (no : streamUsed (limitIn i) i ≡ false) where
   abbrev file : List ℕ
-  file = fileOf maxFile i
+  file = fileOf (limitIn i) i
 
   -- the source row that is row y of the picture
   abbrev sourceIn : ℕ → List ℕ
@@ -189,7 +189,7 @@ module _ (i : Input) (a : Accepted i) (no : streamUsed maxFile i ≡ false) wher
       ∙ sym (shown-by i y x true given))
 
   cell-stored : (y x : ℕ) (rest : List ℕ) → y < i .source .height → x < i .source .width
-      → cellIn file (compressionOf maxFile i) (depthIn i) (storedRow (packIn i) (i .source .width) (sourceIn y) ++ rest) x ≡ cellShown i y x
+      → cellIn file (compressionOf (limitIn i) i) (depthIn i) (storedRow (packIn i) (i .source .width) (sourceIn y) ++ rest) x ≡ cellShown i y x
   unfolding compressionOf rowsCompression depthOf packOf
   cell-stored y x rest l m = rw no (go (i .options .«has_bitfields») refl)
     where
@@ -209,7 +209,7 @@ module _ (i : Input) (a : Accepted i) (no : streamUsed maxFile i ≡ false) wher
       go false e = cell-plain y x rest e l m
 
   -- rows have no stream's compression
-  rows-code : (eqb (compressionOf maxFile i) 1 || eqb (compressionOf maxFile i) 2) ≡ false
+  rows-code : (eqb (compressionOf (limitIn i) i) 1 || eqb (compressionOf (limitIn i) i) 2) ≡ false
   unfolding compressionOf rowsCompression
   rows-code = rw no (go (i .options .«has_bitfields»))
     where
@@ -230,8 +230,8 @@ module _ (i : Input) (a : Accepted i) (no : streamUsed maxFile i ≡ false) wher
   unfolding plainCell
   cell-shown y x l m =
       let from = row-there (cond (i .options .«top_down») y (i .source .height - 1 - y)) (row-stored (i .options .«top_down») (i .source .height) y l) in
-      ap (λ (row : List ℕ). cellIn file (compressionOf maxFile i) (depthIn i) row x) (from .is)
-      ∙ ap (λ (n : ℕ). cellIn file (compressionOf maxFile i) (depthIn i) (storedRow (packIn i) (i .source .width) (sourceIn n) ++ from .rest) x)
+      ap (λ (row : List ℕ). cellIn file (compressionOf (limitIn i) i) (depthIn i) row x) (from .is)
+      ∙ ap (λ (n : ℕ). cellIn file (compressionOf (limitIn i) i) (depthIn i) (storedRow (packIn i) (i .source .width) (sourceIn n) ++ from .rest) x)
       (row-back (i .options .«top_down») (i .source .height) y l)
       ∙ cell-stored y x (from .rest) l m
 
@@ -239,7 +239,7 @@ module _ (i : Input) (a : Accepted i) (no : streamUsed maxFile i ≡ false) wher
   file-long : headBytes i + rowStride (i .source .width) (depthIn i) * i .source .height ≤ length file
   unfolding fileSize pixels rawLen
   file-long =
-      let rows : length (cond (streamUsed maxFile i) (streamOf i) (storedRowsOf i)) ≡ rawBytes i
+      let rows : length (cond (streamUsed (limitIn i) i) (streamOf i) (storedRowsOf i)) ≡ rawBytes i
       = ap (λ (b : Bool). length (cond b (streamOf i) (storedRowsOf i))) no
       ∙ length-rows i (a .masks) (a .samples) in
       omega (arith, length-file i, rows)

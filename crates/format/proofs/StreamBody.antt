@@ -8,7 +8,7 @@ use native.Mathlib.Omega.{arith}
 use lib.Dec.{eqb}
 use lib.ListN.{length, getD, drop}
 use Rattle.leaves.specs.declared.image.BmpPixelFormat.{BmpPixelFormat}
-use Rattle.format.specs.File.{depthIn, headBytes, tailOf, streamOf, maxFile, streamUsed, pixels, compressionOf, fileOf}
+use Rattle.format.specs.File.{depthIn, headBytes, tailOf, streamOf, limitIn, streamUsed, pixels, compressionOf, fileOf}
 use Rattle.format.specs.Layout.{depthOf, coded}
 use Rattle.leaves.specs.Formats.{bytesPerPixel, bitsPerPixel}
 use Rattle.format.proofs.Modes.{coded-cases, used-in}
@@ -104,7 +104,7 @@ coded-source =
 -- ---- when a stream is used
 
 -- the compression says that there is a stream
-kind-read : (i : Input) → streamUsed maxFile i ≡ true → compressionOf maxFile i ≡ cond (eqb (bitsPerPixel (i .source .format)) 8) 1 2
+kind-read : (i : Input) → streamUsed (limitIn i) i ≡ true → compressionOf (limitIn i) i ≡ cond (eqb (bitsPerPixel (i .source .format)) 8) 1 2
 unfolding compressionOf
 kind-read i used = rw used
 
@@ -114,8 +114,8 @@ unfolding depthOf
 plain-depth i off = rw off
 
 -- the stream stands at the offset
-stream-at : (i : Input) → streamUsed maxFile i ≡ true
-    → drop (headBytes i) (fileOf maxFile i)
+stream-at : (i : Input) → streamUsed (limitIn i) i ≡ true
+    → drop (headBytes i) (fileOf (limitIn i) i)
     ≡ stream (bitsPerPixel (i .source .format)) (i .source .width) (i .source .height) (i .plane) (i .source .stride) ++ tailOf i
 unfolding pixels streamOf
 stream-at i used = pixels-at i ∙ rw used
@@ -127,21 +127,21 @@ unfolding cellShown handed
 index-shown i off c y x = rw off (c .shown (handed i y x) ∙ rw (c .step))
 
 -- what the readers show of a stream is what must be shown
-pub stream-body : (i : Input) → Accepted i → streamUsed maxFile i ≡ true
-    → body (fileOf maxFile i) (fieldsOf (fileOf maxFile i)) ≡ shows (expected i)
+pub stream-body : (i : Input) → Accepted i → streamUsed (limitIn i) i ≡ true
+    → body (fileOf (limitIn i) i) (fieldsOf (fileOf (limitIn i) i)) ≡ shows (expected i)
 unfolding expected
 stream-body i a used =
-    let parts = used-in maxFile i used in
+    let parts = used-in (limitIn i) i used in
     let c : Coded (i .source .format) = coded-source (i .source .format) (parts .planned .source) in
     let read = fields-read i a in
-    let offset : fieldsOf (fileOf maxFile i) .offset ≡ headBytes i = ap (λ (t : Fields). t .offset) read in
-    let wide : fieldsOf (fileOf maxFile i) .width ≡ i .source .width = ap (λ (t : Fields). t .width) read in
-    let high : fieldsOf (fileOf maxFile i) .height ≡ i .source .height = ap (λ (t : Fields). t .height) read ∙ rw (parts .planned .bottom-up) in
-    let bits : fieldsOf (fileOf maxFile i) .depth ≡ bitsPerPixel (i .source .format) = ap (λ (t : Fields). t .depth) read ∙ plain-depth i (parts .planned .unmasked) in
-    let kind : fieldsOf (fileOf maxFile i) .compression ≡ cond (eqb (bitsPerPixel (i .source .format)) 8) 1 2
+    let offset : fieldsOf (fileOf (limitIn i) i) .offset ≡ headBytes i = ap (λ (t : Fields). t .offset) read in
+    let wide : fieldsOf (fileOf (limitIn i) i) .width ≡ i .source .width = ap (λ (t : Fields). t .width) read in
+    let high : fieldsOf (fileOf (limitIn i) i) .height ≡ i .source .height = ap (λ (t : Fields). t .height) read ∙ rw (parts .planned .bottom-up) in
+    let bits : fieldsOf (fileOf (limitIn i) i) .depth ≡ bitsPerPixel (i .source .format) = ap (λ (t : Fields). t .depth) read ∙ plain-depth i (parts .planned .unmasked) in
+    let kind : fieldsOf (fileOf (limitIn i) i) .compression ≡ cond (eqb (bitsPerPixel (i .source .format)) 8) 1 2
     = ap (λ (t : Fields). t .compression) read ∙ kind-read i used in
-    let at : drop (fieldsOf (fileOf maxFile i) .offset) (fileOf maxFile i) ≡ _ = ap (λ (n : ℕ). drop n (fileOf maxFile i)) offset ∙ stream-at i used in
-    body-read (fileOf maxFile i) (fieldsOf (fileOf maxFile i)) (bitsPerPixel (i .source .format)) (i .source .width) (i .source .height) (paletteShown i) (i .plane) (i .source .stride)
+    let at : drop (fieldsOf (fileOf (limitIn i) i) .offset) (fileOf (limitIn i) i) ≡ _ = ap (λ (n : ℕ). drop n (fileOf (limitIn i) i)) offset ∙ stream-at i used in
+    body-read (fileOf (limitIn i) i) (fieldsOf (fileOf (limitIn i) i)) (bitsPerPixel (i .source .format)) (i .source .width) (i .source .height) (paletteShown i) (i .plane) (i .source .stride)
     (tailOf i) (cellShown i) (c .deep) (a .some-width) (a .some-height) (a .tall) (rw (← c .one) (a .rows-inside)) (a .plane-long) wide high bits
     (palette-read i a) (rw kind (c .kind)) at
     (index-shown i (parts .planned .unmasked) c)

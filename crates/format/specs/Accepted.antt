@@ -6,7 +6,7 @@ use mathlib.Core.Bool.{true, false}
 use mathlib.Core.List.{List}
 use lib.Bits.{bitAnd}
 use lib.ListN.{length, getD}
-use Rattle.format.specs.File.{maxFile, fileSize}
+use Rattle.format.specs.File.{maxFile, limitIn, fileSize}
 use Rattle.leaves.specs.Formats.{bytesPerPixel, maskSource}
 use Rattle.leaves.specs.Masks.{isOneRun}
 use Rattle.format.specs.Input.{Input}
@@ -32,4 +32,6 @@ pub record Accepted (i : Input) : Type 0 where
   pub plane-long : i .source .stride * i .source .height ≤ length (i .plane)
   pub masks : i .options .«has_bitfields» ≡ true → MasksAccepted (i .options .bitfields .bpp) (i .options .bitfields .masks)
   pub samples : i .options .«has_bitfields» ≡ true → maskSource (i .source .format) ≡ false
-  pub fits : fileSize maxFile i ≤ maxFile
+  -- the file keeps to the limit, and the limit to what bfSize can record
+  pub fits : fileSize (limitIn i) i ≤ limitIn i
+  pub limited : limitIn i ≤ maxFile

@@ -4,6 +4,8 @@ use mathlib.Core.Bool.{Bool, cond, _&&_}
 use mathlib.Core.List.{List, [], _∷_, _++_}
 use lib.Dec.{ltb, leb, eqb}
 use lib.ListN.{length, getD}
+use mir.Syntax.{w32}
+use mir.Val.{ofZ}
 use Rattle.leaves.specs.declared.encoder.EncodedBmpFormat.{EncodedBmpFormat}
 use Rattle.leaves.specs.declared.encoder.EncodedBmpFormat.the-variants.{Rle8, Rle4}
 use Rattle.leaves.specs.Formats.{bitsPerPixel}
@@ -54,7 +56,12 @@ streamOf i = stream (bitsPerPixel (i .source .format)) (i .source .width) (i .so
 abbrev pub maxFile : ℕ
 maxFile = 4294967295
 
--- "Budget = min(raw bytes, 4,294,967,296 − head)", of a limit that a file may have
+-- Document 02, A.5: "The file limit .. become parameters in the options record": the bytes that this call's file may have
+abbrev pub limitIn : Input → ℕ
+limitIn i = i .options .limit
+
+-- "Budget = min(raw bytes, 4,294,967,296 − head)"; A.5: "limit + 1 replaces 4,294,967,296 in the budget, held at 0 where the head is longer", which a
+-- difference of naturals is
 unfoldable pub budget : ℕ → Input → ℕ
 budget limit i = min (rawBytes i) (limit + 1 - headBytes i)
 
@@ -94,9 +101,12 @@ unfoldable pub imageSize : ℕ → Input → ℕ
 imageSize limit i =
     cond (eqb (compressionOf limit i) 0) (cond (eqb (headerSize (modeIn i) (i .source .format)) 40) 0 (rawBytes i)) (length (pixels limit i))
 
--- "Resolution is 2835 in each direction"
-abbrev pub pelsPerMeter : ℕ
-pelsPerMeter = 2835
+-- A.5: "both resolutions become parameters", which are 2835 in document 01: biXPelsPerMeter and biYPelsPerMeter, each a LONG's 32 bits
+abbrev pub xPelsIn : Input → ℕ
+xPelsIn i = ofZ w32 (i .options .«x_pels_per_meter»)
+
+abbrev pub yPelsIn : Input → ℕ
+yPelsIn i = ofZ w32 (i .options .«y_pels_per_meter»)
 
 -- all bytes before the pixels, of a file with this compression, image size, resolution and size; a profile stands behind the raw bytes
 unfoldable pub headOf : Input → ℕ → ℕ → ℕ → ℕ → ℕ → List ℕ
@@ -115,7 +125,7 @@ fileSize limit i = headBytes i + length (pixels limit i) + length (tailOf i)
 
 -- "The head is everything before the pixels"; "profile after the pixels"
 unfoldable pub fileOf : ℕ → Input → List ℕ
-fileOf limit i = headOf i (compressionOf limit i) (imageSize limit i) pelsPerMeter pelsPerMeter (fileSize limit i) ++ pixels limit i ++ tailOf i
+fileOf limit i = headOf i (compressionOf limit i) (imageSize limit i) (xPelsIn i) (yPelsIn i) (fileSize limit i) ++ pixels limit i ++ tailOf i
 
 -- ---- bound and format
 

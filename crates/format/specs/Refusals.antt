@@ -1,4 +1,5 @@
--- Document 01's whole table, of a call.
+-- Document 01's whole table, of a call, with document 02's rows of the settings. A limit stands where document 01 has 4,294,967,295 (A.5: "The limit
+-- replaces 4,294,967,295 in 14, 16 and the bound").
 use Prim.Native.Nat.{ℕ, _+_, _-_}
 use mathlib.Core.Bool.{Bool, true, false, not, cond, _&&_, _||_}
 use mathlib.Core.List.{List, [], _∷_, _++_}
@@ -12,7 +13,7 @@ use Rattle.leaves.specs.declared.error.Check.{Check}
 use Rattle.format.specs.File.{rlePlanned, streamOf, budget, plainSize, boundOf}
 use Rattle.leaves.specs.Formats.{bytesPerPixel, isIndexed, maskSource}
 use Rattle.leaves.specs.Masks.{bitfieldsRows}
-use Rattle.leaves.specs.Refusals.{firstOf, profileMode, dimensionRows, paletteRows, modeRows, planeRows}
+use Rattle.leaves.specs.Refusals.{firstOf, profileMode, dimensionRows, settingsRows, paletteRows, modeRows, planeRows}
 use Rattle.format.specs.Input.{Input}
 use Rattle.leaves.specs.declared.encoder.EncodeSource.{EncodeSource}
 use Rattle.leaves.specs.declared.options.EncodeOptions.{EncodeOptions}
@@ -34,10 +35,11 @@ unfoldable pub givenMasksRows : EncodeSource → EncodeOptions → List (Bool ×
 givenMasksRows s o =
     cond (o .«has_bitfields») (bitfieldsRows (o .bitfields .bpp) (o .bitfields .masks) ++ ((maskSource (s .format), MaskSource) ∷ [])) []
 
--- 1 to 13: picture, modes, masks and plane, of a plane and a palette of so many bytes
+-- 1 to 13: picture, settings, modes, masks and plane, of a plane and a palette of so many bytes; 20 and 21 stand "directly after 2"
 unfoldable pub checkRows : EncodeSource → EncodeOptions → ℕ → ℕ → List (Bool × Refusal)
 checkRows s o planeBytes paletteBytes =
     dimensionRows (s .width) (s .height)
+    ++ settingsRows (o .limit) (o .«x_pels_per_meter») (o .«y_pels_per_meter»)
     ++ paletteRows (isIndexed (s .format)) (s .«has_palette») paletteBytes
     ++ modeRows (o .«has_bitfields») (o .«has_calibrated_rgb») (profileMode (s .«has_linked_icc») (s .«has_icc») (o .«embed_icc»))
     ++ givenMasksRows s o
