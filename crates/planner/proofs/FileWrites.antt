@@ -24,7 +24,7 @@ use Rattle.format.specs.declared.layout.Coding.{Coding}
 use Rattle.format.specs.declared.layout.Coding.the-variants.{Stream, Nothing}
 use Rattle.format.specs.declared.layout.Layout.{Layout}
 use Rattle.format.specs.declared.layout.Mode.the-variants.{Plain}
-use Rattle.format.specs.File.{modeIn, depthIn, packIn, rlePlanned, rawBytes, entriesOf, headBytes, tailOf, streamOf, maxFile, budget, streamUsed, storedRowsOf, pixels, tableEntry, colourTable, storedHeight, compressionOf, imageSize, pelsPerMeter, headOf, fileSize, fileOf, plainSize, formatOf}
+use Rattle.format.specs.File.{modeIn, depthIn, packIn, rlePlanned, rawBytes, entriesOf, headBytes, tailOf, streamOf, maxFile, limitIn, budget, streamUsed, storedRowsOf, pixels, tableEntry, colourTable, storedHeight, compressionOf, imageSize, xPelsIn, yPelsIn, headOf, fileSize, fileOf, plainSize, formatOf}
 use Rattle.format.specs.Input.{Input}
 use Rattle.format.specs.Layout.{headerSize, headRest, headLen, rawLen, rowsCompression, rowsFormat, codingAt, isStream, coded, codingOf, layoutOf}
 use Rattle.format.proofs.Acceptance.{Checked, rows-long, plan-passed}
@@ -63,7 +63,7 @@ module _ (i : Input) (s : Sizes) (e : s ≡ sizesOf i) where
 -- ---- the head
 
 -- the head of a layout
-head-of : (i : Input) (c im n : ℕ) → headBy (layoutIn i) (i .source) (i .options) (i .palette) (headBytes i) c im n (length (tailOf i)) (headBytes i - 14 + rawBytes i) ≡ headOf i c im pelsPerMeter pelsPerMeter n
+head-of : (i : Input) (c im n : ℕ) → headBy (layoutIn i) (i .source) (i .options) (i .palette) (headBytes i) c im n (length (tailOf i)) (headBytes i - 14 + rawBytes i) ≡ headOf i c im (xPelsIn i) (yPelsIn i) n
 unfolding headBy firstFields layoutOf headOf colourTable
 head-of i c im n = refl
 
@@ -83,8 +83,8 @@ head-plain i c im n a b x y e =
       «bit_count» = depthIn i;
       compression = c;
       «image_size» = im;
-      «x_pels» = pelsPerMeter;
-      «y_pels» = pelsPerMeter;
+      «x_pels» = xPelsIn i;
+      «y_pels» = yPelsIn i;
       «clr_used» = clrUsed (depthIn i) (entriesOf i);
     }) ++ same z ++ cat (tableEntry (i .palette)) (entriesOf i)
 
@@ -143,16 +143,16 @@ module _ (i : Input) (l : Layout) (rle : Rle) (el : l ≡ layoutIn i) (ec : l .c
 
 module _ (i : Input) (l : Layout) (sizes : Sizes) (rle : Rle) (len : ℕ) (k : Streamed i l sizes rle len) where
   stream-plan : PlannedIn i
-  stream-plan = used-in maxFile i (k .used) .planned
+  stream-plan = used-in (limitIn i) i (k .used) .planned
 
   -- its file's size has 32 bits
   pub stream-small : sizes .head + len ≤ maxFile
   unfolding budget
   stream-small =
-      let under : length (streamOf i) < min (rawBytes i) (maxFile + 1 - headBytes i) = used-in maxFile i (k .used) .under in
-      omega (arith, sizes-head i sizes (k .planned .sizes-are), k .long)
+      let under : length (streamOf i) < min (rawBytes i) (limitIn i + 1 - headBytes i) = used-in (limitIn i) i (k .used) .under in
+      omega (arith, sizes-head i sizes (k .planned .sizes-are), k .long, plan-passed i (k .planned .passed) .0 .limited)
 
-  stream-pixels : pixels maxFile i ≡ streamOf i
+  stream-pixels : pixels (limitIn i) i ≡ streamOf i
   unfolding pixels
   stream-pixels = ap (λ (b : Bool). cond b (streamOf i) (storedRowsOf i)) (k .used)
 
@@ -160,24 +160,24 @@ module _ (i : Input) (l : Layout) (sizes : Sizes) (rle : Rle) (len : ℕ) (k : S
   stream-eight = coding-depth (bitsPerPixel (i .source .format)) rle (at-depth i l rle (k .planned .layout-is) (k .coded)) .1
 
   -- what goes by the coding
-  by-coding : {A : Type 0} → (x y rest : A) → cond (codes.isRle4 rle) y x ≡ cond (streamUsed maxFile i) (cond (eqb (bitsPerPixel (i .source .format)) 8) x y) rest
-  by-coding x y rest = go (codes.isRle4 rle) (eqb (bitsPerPixel (i .source .format)) 8) (streamUsed maxFile i) stream-eight (k .used)
+  by-coding : {A : Type 0} → (x y rest : A) → cond (codes.isRle4 rle) y x ≡ cond (streamUsed (limitIn i) i) (cond (eqb (bitsPerPixel (i .source .format)) 8) x y) rest
+  by-coding x y rest = go (codes.isRle4 rle) (eqb (bitsPerPixel (i .source .format)) 8) (streamUsed (limitIn i) i) stream-eight (k .used)
     where
       go : (a b c : Bool) → a ≡ not b → c ≡ true → cond a y x ≡ cond c (cond b x y) rest
       go a true true e u = ap (λ (q : Bool). cond q y x) e
       go a false true e u = ap (λ (q : Bool). cond q y x) e
       go a b false e u = absurd (false≢true u)
 
-  stream-size : sizes .head + len ≡ fileSize maxFile i
+  stream-size : sizes .head + len ≡ fileSize (limitIn i) i
   unfolding fileSize
   stream-size = omega (arith, sizes-head i sizes (k .planned .sizes-are), k .long, ap length stream-pixels, no-tail i stream-plan)
 
-  stream-image : len ≡ imageSize maxFile i
-  stream-image = k .long ∙ sym (compressed-size maxFile i (stream-compression maxFile i (k .used)) ∙ ap length stream-pixels)
+  stream-image : len ≡ imageSize (limitIn i) i
+  stream-image = k .long ∙ sym (compressed-size (limitIn i) i (stream-compression (limitIn i) i (k .used)) ∙ ap length stream-pixels)
 
   -- the answer
   pub stream-answer : (format : EncodedBmpFormat) → format ≡ cond (codes.isRle4 rle) written.Rle4 written.Rle8
-      → encoded.File format (sizes .head + len) ≡ encoded.File (formatOf maxFile i) (fileSize maxFile i)
+      → encoded.File format (sizes .head + len) ≡ encoded.File (formatOf (limitIn i) i) (fileSize (limitIn i) i)
   unfolding formatOf
   stream-answer format e = λ z. encoded.File ((e ∙ by-coding written.Rle8 written.Rle4 (rowsFormat (i .source) (i .options))) z) (stream-size z)
 
@@ -185,18 +185,18 @@ module _ (i : Input) (l : Layout) (sizes : Sizes) (rle : Rle) (len : ℕ) (k : S
   pub stream-written : (d b1 b2 : List ℕ) (at compression : ℕ) → compression ≡ cond (codes.isRle4 rle) 2 1 → at + sizes .head + len ≤ length d
       → b1 ≡ put d at (headBy l (i .source) (i .options) (i .palette) (sizes .head) compression len (sizes .head + len) 0 0)
       → b2 ≡ put b1 (at + sizes .head) (stream (codes.depthOf (codes.isRle4 rle)) (i .source .width) (i .source .height) (i .plane) (i .source .stride))
-      → b2 ≡ put d at (fileOf maxFile i)
+      → b2 ≡ put d at (fileOf (limitIn i) i)
   unfolding fileOf compressionOf
   stream-written d b1 b2 at compression ec room e1 e2 =
       let p = k .planned in
-      let top = headOf i (compressionOf maxFile i) (imageSize maxFile i) pelsPerMeter pelsPerMeter (fileSize maxFile i) in
-      let c : compression ≡ compressionOf maxFile i = ec ∙ by-coding 1 2 (rowsCompression (i .source) (i .options)) in
+      let top = headOf i (compressionOf (limitIn i) i) (imageSize (limitIn i) i) (xPelsIn i) (yPelsIn i) (fileSize (limitIn i) i) in
+      let c : compression ≡ compressionOf (limitIn i) i = ec ∙ by-coding 1 2 (rowsCompression (i .source) (i .options)) in
       let eh = sizes-head i sizes (p .sizes-are) in
       let h : headBy l (i .source) (i .options) (i .palette) (sizes .head) compression len (sizes .head + len) 0 0 ≡ top
       = (λ z. headBy (p .layout-is z) (i .source) (i .options) (i .palette) (eh z) (c z) (stream-image z) (stream-size z) 0 0)
-      ∙ head-plain i (compressionOf maxFile i) (imageSize maxFile i) (fileSize maxFile i) 0 0 (length (tailOf i)) (headBytes i - 14 + rawBytes i) (stream-plan .mode)
-      ∙ head-of i (compressionOf maxFile i) (imageSize maxFile i) (fileSize maxFile i) in
-      let long = length-head i (compressionOf maxFile i) (imageSize maxFile i) pelsPerMeter pelsPerMeter (fileSize maxFile i) ∙ sym eh in
+      ∙ head-plain i (compressionOf (limitIn i) i) (imageSize (limitIn i) i) (fileSize (limitIn i) i) 0 0 (length (tailOf i)) (headBytes i - 14 + rawBytes i) (stream-plan .mode)
+      ∙ head-of i (compressionOf (limitIn i) i) (imageSize (limitIn i) i) (fileSize (limitIn i) i) in
+      let long = length-head i (compressionOf (limitIn i) i) (imageSize (limitIn i) i) (xPelsIn i) (yPelsIn i) (fileSize (limitIn i) i) ∙ sym eh in
       put-next d b1 b2 top (streamOf i) at (sizes .head) (at + sizes .head) long refl (omega arith) (e1 ∙ ap (put d at) h)
       (e2 ∙ ap (put b1 (at + sizes .head)) (stream-coded i l rle (p .layout-is) (k .coded)))
       ∙ ap (put d at) (sym ((λ z. top ++ stream-pixels z ++ tail-empty i stream-plan z) ∙ append-nil (top ++ streamOf i)))
@@ -225,16 +225,16 @@ module _ (i : Input) (l : Layout) (sizes : Sizes) (p : Planned i l sizes) where
         ),
       )
 
-  module _ (u : streamUsed maxFile i ≡ false) where
-    rows-size : sizes .file ≡ fileSize maxFile i
+  module _ (u : streamUsed (limitIn i) i ≡ false) where
+    rows-size : sizes .file ≡ fileSize (limitIn i) i
     unfolding plainSize fileSize
-    rows-size = sizes-file i sizes (p .sizes-are) ∙ omega (arith, ap length (rows-pixels maxFile i u), rows-long i rows-checked)
+    rows-size = sizes-file i sizes (p .sizes-are) ∙ omega (arith, ap length (rows-pixels (limitIn i) i u), rows-long i rows-checked)
 
     -- the answer
-    pub rows-answer : encoded.File (l .format) (sizes .file) ≡ encoded.File (formatOf maxFile i) (fileSize maxFile i)
+    pub rows-answer : encoded.File (l .format) (sizes .file) ≡ encoded.File (formatOf (limitIn i) i) (fileSize (limitIn i) i)
     unfolding formatOf layoutOf
     rows-answer =
-        let f : l .format ≡ formatOf maxFile i = ap (λ (x : Layout). x .format) (p .layout-is)
+        let f : l .format ≡ formatOf (limitIn i) i = ap (λ (x : Layout). x .format) (p .layout-is)
         ∙ sym (ap (λ (b : Bool). cond b (cond (eqb (bitsPerPixel (i .source .format)) 8) written.Rle8 written.Rle4) (rowsFormat (i .source) (i .options))) u) in
         λ z. encoded.File (f z) (rows-size z)
 
@@ -242,24 +242,24 @@ module _ (i : Input) (l : Layout) (sizes : Sizes) (p : Planned i l sizes) where
     pub rows-written : (d b1 b2 b3 profile : List ℕ) (at image : ℕ) → profile ≡ tailOf i → image ≡ cond (eqb (l .compression) 0) (cond (eqb (l .«header_size») 40) 0 (sizes .raw)) (sizes .raw) → at + sizes .head + sizes .raw ≤ length d
         → b1 ≡ put d at (headBy l (i .source) (i .options) (i .palette) (sizes .head) (l .compression) image (sizes .file) (length profile) (sizes .head - 14 + sizes .raw))
         → b2 ≡ put b1 (at + sizes .head) (storedRows (l .pack) (i .source .width) (i .source .height) (i .options .«top_down») (i .plane) (i .source .stride))
-        → b3 ≡ put b2 (at + sizes .head + sizes .raw) profile → b3 ≡ put d at (fileOf maxFile i)
+        → b3 ≡ put b2 (at + sizes .head + sizes .raw) profile → b3 ≡ put d at (fileOf (limitIn i) i)
     unfolding storedRowsOf fileOf compressionOf imageSize layoutOf
     rows-written d b1 b2 b3 profile at image et ei room e1 e2 e3 =
         let eh = sizes-head i sizes (p .sizes-are) in
         let er = sizes-raw i sizes (p .sizes-are) in
-        let c : l .compression ≡ compressionOf maxFile i = ap (λ (x : Layout). x .compression) (p .layout-is)
+        let c : l .compression ≡ compressionOf (limitIn i) i = ap (λ (x : Layout). x .compression) (p .layout-is)
         ∙ sym (ap (λ (b : Bool). cond b (cond (eqb (bitsPerPixel (i .source .format)) 8) 1 2) (rowsCompression (i .source) (i .options))) u) in
-        let stored : sizes .raw ≡ length (pixels maxFile i) = er ∙ sym (ap length (rows-pixels maxFile i u) ∙ rows-long i rows-checked) in
-        let m : image ≡ imageSize maxFile i = ei ∙ (λ z. cond (eqb (c z) 0) (cond (eqb (p .layout-is z .«header_size») 40) 0 (er z)) (stored z)) in
-        let top = headOf i (compressionOf maxFile i) (imageSize maxFile i) pelsPerMeter pelsPerMeter (fileSize maxFile i) in
+        let stored : sizes .raw ≡ length (pixels (limitIn i) i) = er ∙ sym (ap length (rows-pixels (limitIn i) i u) ∙ rows-long i rows-checked) in
+        let m : image ≡ imageSize (limitIn i) i = ei ∙ (λ z. cond (eqb (c z) 0) (cond (eqb (p .layout-is z .«header_size») 40) 0 (er z)) (stored z)) in
+        let top = headOf i (compressionOf (limitIn i) i) (imageSize (limitIn i) i) (xPelsIn i) (yPelsIn i) (fileSize (limitIn i) i) in
         let h : headBy l (i .source) (i .options) (i .palette) (sizes .head) (l .compression) image (sizes .file) (length profile) (sizes .head - 14 + sizes .raw) ≡ top
         = (λ z. headBy (p .layout-is z) (i .source) (i .options) (i .palette) (eh z) (c z) (m z) (rows-size z) (length (et z)) (eh z - 14 + er z))
-        ∙ head-of i (compressionOf maxFile i) (imageSize maxFile i) (fileSize maxFile i) in
-        let long : length top ≡ sizes .head = length-head i (compressionOf maxFile i) (imageSize maxFile i) pelsPerMeter pelsPerMeter (fileSize maxFile i) ∙ sym eh in
+        ∙ head-of i (compressionOf (limitIn i) i) (imageSize (limitIn i) i) (fileSize (limitIn i) i) in
+        let long : length top ≡ sizes .head = length-head i (compressionOf (limitIn i) i) (imageSize (limitIn i) i) (xPelsIn i) (yPelsIn i) (fileSize (limitIn i) i) ∙ sym eh in
         let all : length (top ++ storedRowsOf i) ≡ sizes .head + sizes .raw = length-append top (storedRowsOf i) ∙ omega (arith, long, er, rows-long i rows-checked) in
         let rows : storedRows (l .pack) (i .source .width) (i .source .height) (i .options .«top_down») (i .plane) (i .source .stride) ≡ storedRowsOf i
         = ap (λ (q : RowPack). storedRows q (i .source .width) (i .source .height) (i .options .«top_down») (i .plane) (i .source .stride)) pack-is in
         let two = put-next d b1 b2 top (storedRowsOf i) at (sizes .head) (at + sizes .head) long refl (omega arith) (e1 ∙ ap (put d at) h) (e2 ∙ ap (put b1 (at + sizes .head)) rows) in
         put-next d b2 b3 (top ++ storedRowsOf i) (tailOf i) at (sizes .head + sizes .raw) (at + sizes .head + sizes .raw) all (omega arith) (omega arith) two
         (e3 ∙ ap (put b2 (at + sizes .head + sizes .raw)) et)
-        ∙ ap (put d at) (sym (ap (λ (x : List ℕ). top ++ x ++ tailOf i) (rows-pixels maxFile i u)))
+        ∙ ap (put d at) (sym (ap (λ (x : List ℕ). top ++ x ++ tailOf i) (rows-pixels (limitIn i) i u)))

@@ -76,6 +76,10 @@ high (pos n) f e =
     record { cast = rw (toZ-ofZ f) (tt, record { fits = omega arith }); bits = rw (toZ-ofZ f) refl }
 high (negsuc n) f e = let q : ltZ (negsuc n) (pos 0) ≡ false = rw (toZ-ofZ f) at e in let z : _≡_ {A = ℕ} 0 1 = cc in absurd (omega arith)
 
--- what is computed of the machine's form of a number
+-- the machine's form of a number is the number
+pub long-is : (z : ℤ) → mag z < 2147483648 → toZ w32 (ofZ w32 z) ≡ z
+long-is z h = let f : SFits w32 z = record { sfits = h } in toZ-ofZ f
+
+-- so is what is computed of it
 pub long-of : (z : ℤ) (r : ℕ) → mag z < 2147483648 → r ≡ ofZ w32 (toZ w32 (ofZ w32 z)) → r ≡ ofZ w32 z
-long-of z r h e = let f : SFits w32 z = record { sfits = h } in e ∙ ap (ofZ w32) (toZ-ofZ f)
+long-of z r h e = e ∙ ap (ofZ w32) (long-is z h)

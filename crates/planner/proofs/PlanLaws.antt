@@ -18,7 +18,7 @@ use Rattle.leaves.specs.Refusals.{checkNumber, firstOf, orElse}
 use Rattle.leaves.specs.Sizes.{rowStride}
 use Rattle.leaves.proofs.FirstOf.{first-or, first-pass, first-stop, check-determined}
 use Rattle.format.specs.declared.layout.Layout.{Layout}
-use Rattle.format.specs.File.{depthIn, rawBytes, headBytes, tailOf, rlePlanned, maxFile, plainSize, budget, boundOf}
+use Rattle.format.specs.File.{depthIn, rawBytes, headBytes, tailOf, rlePlanned, limitIn, plainSize, budget, boundOf}
 use Rattle.format.specs.Input.{Input}
 use Rattle.format.specs.Layout.{isStream, depthOf, rawLen, headLen, wantsRle, layoutOf}
 use Rattle.format.specs.Refusals.{fileTooLarge, checkRows, callRows, planRows}
@@ -69,7 +69,7 @@ unfolding sizesPlan sizesBy
 no-plan limit head raw tail width l fits e f t = rw (e, lt-ltb limit (head + raw + tail) (leb-false (head + raw + tail) limit (sym f ∙ t)))
 
 -- the bound of a call's sizes
-pub plan-bound : (i : Input) (s : Sizes) → s ≡ sizesOf i → s .bound ≡ boundOf maxFile i
+pub plan-bound : (i : Input) (s : Sizes) → s ≡ sizesOf i → s .bound ≡ boundOf (limitIn i) i
 unfolding sizesBy boundOf budget plainSize
 plan-bound i s e = ap (λ (t : Sizes). t .bound) e
 
@@ -102,9 +102,9 @@ stream-planned s o n l e = ap (λ (z : Layout). isStream (z .coding)) e ∙ codi
 -- ---- number, layout and sizes determine a plan
 
 -- layout and sizes, or the cause
-unfoldable planOf : ℕ → EncodeSource → EncodeOptions → ℕ → ℕ → ℕ → Plan
-planOf limit s o planeBytes paletteBytes profileBytes =
-    planBy (firstOf (lengthRows limit s o planeBytes paletteBytes profileBytes)) (layoutOf s o paletteBytes) (sizesBy limit (headLen s o paletteBytes) (rawLen s o) profileBytes (wantsRle s o) (s .width))
+unfoldable planOf : EncodeSource → EncodeOptions → ℕ → ℕ → ℕ → Plan
+planOf s o planeBytes paletteBytes profileBytes =
+    planBy (firstOf (lengthRows (o .limit) s o planeBytes paletteBytes profileBytes)) (layoutOf s o paletteBytes) (sizesBy (o .limit) (headLen s o paletteBytes) (rawLen s o) profileBytes (wantsRle s o) (s .width))
 
 planCheck : Plan → Check
 planCheck (plan.Ready l s) = check.Passed
@@ -144,21 +144,21 @@ says : (c : Check) (l : Layout) (s : Sizes) → Says c l s (planBy c l s)
 says check.Passed l s = record { number = refl; bound = refl; layout = refl; sizes = refl }
 says (check.Refused why) l s = record { number = refl; bound = refl; layout = refl; sizes = refl }
 
-module _ (limit : ℕ) (s : EncodeSource) (o : EncodeOptions) (a b t : ℕ) where
+module _ (s : EncodeSource) (o : EncodeOptions) (a b t : ℕ) where
   rows : List (Bool × Refusal)
-  rows = lengthRows limit s o a b t
+  rows = lengthRows (o .limit) s o a b t
 
   sizes : Sizes
-  sizes = sizesBy limit (headLen s o b) (rawLen s o) t (wantsRle s o) (s .width)
+  sizes = sizesBy (o .limit) (headLen s o b) (rawLen s o) t (wantsRle s o) (s .width)
 
   -- the promise of the plan is an equation
-  planned-as : (p : Plan) → p ≡ planOf limit s o a b t → PlannedBy limit s o a b t p
+  planned-as : (p : Plan) → p ≡ planOf s o a b t → PlannedBy s o a b t p
   unfolding planOf rows sizes
   planned-as p e =
       let k = says (firstOf rows) (layoutOf s o b) sizes in
       record { number = ap planNumber e ∙ k .number; bound = ap planBound e ∙ k .bound; layout = ap planLayout e ∙ k .layout; sizes = ap planSizes e ∙ k .sizes }
 
-  planned-is : (p : Plan) → PlannedBy limit s o a b t p → p ≡ planOf limit s o a b t
+  planned-is : (p : Plan) → PlannedBy s o a b t p → p ≡ planOf s o a b t
   unfolding planOf rows sizes
   planned-is p h =
       let k = says (firstOf rows) (layoutOf s o b) sizes in
@@ -167,23 +167,23 @@ module _ (limit : ℕ) (s : EncodeSource) (o : EncodeOptions) (a b t : ℕ) wher
 -- ---- the plan by the checks
 
 -- a call that is refused has a refused plan
-pub plan-stops : (limit : ℕ) (s : EncodeSource) (o : EncodeOptions) (a b t : ℕ) (c : Check) (why : Refusal) → c ≡ firstOf (checkRows s o a b) → c ≡ check.Refused why
-    → PlannedBy limit s o a b t (plan.Refused why)
+pub plan-stops : (s : EncodeSource) (o : EncodeOptions) (a b t : ℕ) (c : Check) (why : Refusal) → c ≡ firstOf (checkRows s o a b) → c ≡ check.Refused why
+    → PlannedBy s o a b t (plan.Refused why)
 unfolding planOf lengthRows
-plan-stops limit s o a b t c why e q =
-    planned-as limit s o a b t (plan.Refused why)
-    (sym (ap (λ (k : Check). planBy k (layoutOf s o b) (sizesBy limit (headLen s o b) (rawLen s o) t (wantsRle s o) (s .width))) (first-stop (checkRows s o a b) _ why (sym e ∙ q))))
+plan-stops s o a b t c why e q =
+    planned-as s o a b t (plan.Refused why)
+    (sym (ap (λ (k : Check). planBy k (layoutOf s o b) (sizesBy (o .limit) (headLen s o b) (rawLen s o) t (wantsRle s o) (s .width))) (first-stop (checkRows s o a b) _ why (sym e ∙ q))))
 
 -- of one that passes, 14 decides
-pub plan-sizes : (limit : ℕ) (s : EncodeSource) (o : EncodeOptions) (a b t head raw : ℕ) (l : Layout) (r : Plan) → firstOf (checkRows s o a b) ≡ check.Passed
-    → l ≡ layoutOf s o b → head ≡ headLen s o b → raw ≡ rawLen s o → r ≡ sizesPlan limit l head raw t (s .width) → PlannedBy limit s o a b t r
+pub plan-sizes : (s : EncodeSource) (o : EncodeOptions) (a b t head raw : ℕ) (l : Layout) (r : Plan) → firstOf (checkRows s o a b) ≡ check.Passed
+    → l ≡ layoutOf s o b → head ≡ headLen s o b → raw ≡ rawLen s o → r ≡ sizesPlan (o .limit) l head raw t (s .width) → PlannedBy s o a b t r
 unfolding planOf lengthRows sizesPlan
-plan-sizes limit s o a b t head raw l r passed el eh er e =
+plan-sizes s o a b t head raw l r passed el eh er e =
     let rle = stream-planned s o b l el in
-    planned-as limit s o a b t r
+    planned-as s o a b t r
     (e
-    ∙ (λ z. planBy (firstOf ((not (rle z) && ltb limit (eh z + er z + t), FileTooLarge) ∷ [])) (el z) (sizesBy limit (eh z) (er z) t (rle z) (s .width)))
-    ∙ sym (ap (λ (k : Check). planBy k (layoutOf s o b) (sizesBy limit (headLen s o b) (rawLen s o) t (wantsRle s o) (s .width))) (first-pass (checkRows s o a b) _ passed)))
+    ∙ (λ z. planBy (firstOf ((not (rle z) && ltb (o .limit) (eh z + er z + t), FileTooLarge) ∷ [])) (el z) (sizesBy (o .limit) (eh z) (er z) t (rle z) (s .width)))
+    ∙ sym (ap (λ (k : Check). planBy k (layoutOf s o b) (sizesBy (o .limit) (headLen s o b) (rawLen s o) t (wantsRle s o) (s .width))) (first-pass (checkRows s o a b) _ passed)))
 
 -- ---- what a plan says
 
@@ -204,29 +204,29 @@ refusalIn (plan.Ready l s) other = other
 refusalIn (plan.Refused why) other = why
 
 -- the plan of a call, by the table
-call-plan : (i : Input) → planOf maxFile (i .source) (i .options) (length (i .plane)) (length (i .palette)) (length (tailOf i)) ≡ planBy (firstOf (planRows maxFile i)) (layoutIn i) (sizesOf i)
+call-plan : (i : Input) → planOf (i .source) (i .options) (length (i .plane)) (length (i .palette)) (length (tailOf i)) ≡ planBy (firstOf (planRows (limitIn i) i)) (layoutIn i) (sizesOf i)
 unfolding planOf lengthRows planRows fileTooLarge plainSize
 call-plan i = refl
 
-module _ (i : Input) (p : Plan) (tail : ℕ) (et : tail ≡ length (tailOf i)) (e : PlannedBy maxFile (i .source) (i .options) (length (i .plane)) (length (i .palette)) tail p) where
-  by-table : p ≡ planBy (firstOf (planRows maxFile i)) (layoutIn i) (sizesOf i)
-  by-table = planned-is maxFile (i .source) (i .options) (length (i .plane)) (length (i .palette)) tail p e ∙ ap (planOf maxFile (i .source) (i .options) (length (i .plane)) (length (i .palette))) et ∙ call-plan i
+module _ (i : Input) (p : Plan) (tail : ℕ) (et : tail ≡ length (tailOf i)) (e : PlannedBy (i .source) (i .options) (length (i .plane)) (length (i .palette)) tail p) where
+  by-table : p ≡ planBy (firstOf (planRows (limitIn i) i)) (layoutIn i) (sizesOf i)
+  by-table = planned-is (i .source) (i .options) (length (i .plane)) (length (i .palette)) tail p e ∙ ap (planOf (i .source) (i .options) (length (i .plane)) (length (i .palette))) et ∙ call-plan i
 
   -- of a ready plan: the rows 1 to 14 pass, and layout and sizes are the call's
   pub plan-ready : (l : Layout) (s : Sizes) → p ≡ plan.Ready l s → Planned i l s
   unfolding isReady layoutOfPlan sizesOfPlan
-  plan-ready l s q = go (firstOf (planRows maxFile i)) refl (sym by-table ∙ q)
+  plan-ready l s q = go (firstOf (planRows (limitIn i) i)) refl (sym by-table ∙ q)
     where
-      go : (c : Check) → firstOf (planRows maxFile i) ≡ c → planBy c (layoutIn i) (sizesOf i) ≡ plan.Ready l s → Planned i l s
+      go : (c : Check) → firstOf (planRows (limitIn i) i) ≡ c → planBy c (layoutIn i) (sizesOf i) ≡ plan.Ready l s → Planned i l s
       go check.Passed r f = record { passed = r; layout-is = sym (ap (λ (x : Plan). layoutOfPlan x l) f); sizes-are = sym (ap (λ (x : Plan). sizesOfPlan x s) f) }
       go (check.Refused why) r f = absurd (false≢true (ap isReady f))
 
   -- of a refused one: the first of them refuses so
-  pub plan-refused : (why : Refusal) → p ≡ plan.Refused why → firstOf (planRows maxFile i) ≡ check.Refused why
+  pub plan-refused : (why : Refusal) → p ≡ plan.Refused why → firstOf (planRows (limitIn i) i) ≡ check.Refused why
   unfolding isReady refusalIn
-  plan-refused why q = go (firstOf (planRows maxFile i)) refl (sym by-table ∙ q)
+  plan-refused why q = go (firstOf (planRows (limitIn i) i)) refl (sym by-table ∙ q)
     where
-      go : (c : Check) → firstOf (planRows maxFile i) ≡ c → planBy c (layoutIn i) (sizesOf i) ≡ plan.Refused why → firstOf (planRows maxFile i) ≡ check.Refused why
+      go : (c : Check) → firstOf (planRows (limitIn i) i) ≡ c → planBy c (layoutIn i) (sizesOf i) ≡ plan.Refused why → firstOf (planRows (limitIn i) i) ≡ check.Refused why
       go check.Passed r f = absurd (false≢true (sym (ap isReady f)))
       go (check.Refused other) r f = r ∙ ap check.Refused (ap (λ (x : Plan). refusalIn x why) f)
 

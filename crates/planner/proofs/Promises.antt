@@ -11,7 +11,7 @@ use Rattle.leaves.specs.declared.error.Check.{Check}
 use Rattle.leaves.specs.declared.error.Check.the-variants as check
 use Rattle.leaves.specs.declared.error.Refusal.{Refusal}
 use Rattle.leaves.specs.Refusals.{numberOf, checkNumber, firstOf}
-use Rattle.format.specs.File.{maxFile, fileOf}
+use Rattle.format.specs.File.{limitIn, fileOf}
 use Rattle.format.specs.Input.{Input}
 use Rattle.format.specs.Refusals.{writeRows}
 use Rattle.leaves.proofs.FirstOf.{check-determined}
@@ -92,21 +92,21 @@ sized-determined i r s p q = bound-determined r s (p .number ∙ sym (q .number)
 -- bytes before the offset and after the last appended byte are as before; after a refusal all are
 pub others-stay : (i : Input) (offset : ℕ) (was later : List ℕ) (r : Encoded) → offset ≤ length was → Written i offset was later r
     → (take offset later ≡ take offset was) × (drop (offset + encodedBytes r) later ≡ drop (offset + encodedBytes r) was)
-others-stay i offset was later r h p = go (firstOf (writeRows maxFile i (length was) offset)) (p .bytes) (p .buffer)
+others-stay i offset was later r h p = go (firstOf (writeRows (limitIn i) i (length was) offset)) (p .bytes) (p .buffer)
   where
     go : (c : Check) → encodedBytes r ≡ bytesFor c i → later ≡ laterFor c i offset was
         → (take offset later ≡ take offset was) × (drop (offset + encodedBytes r) later ≡ drop (offset + encodedBytes r) was)
     go check.Passed b l =
-        let n : offset + encodedBytes r ≡ offset + length (fileOf maxFile i) = ap (λ (k : ℕ). offset + k) (b ∙ sym (length-file i)) in (
-          ap (take offset) l ∙ before-put was offset (fileOf maxFile i) h,
-          (λ z. drop (n z) (l z)) ∙ after-put was offset (fileOf maxFile i) h ∙ ap (λ (k : ℕ). drop k was) (sym n),
+        let n : offset + encodedBytes r ≡ offset + length (fileOf (limitIn i) i) = ap (λ (k : ℕ). offset + k) (b ∙ sym (length-file i)) in (
+          ap (take offset) l ∙ before-put was offset (fileOf (limitIn i) i) h,
+          (λ z. drop (n z) (l z)) ∙ after-put was offset (fileOf (limitIn i) i) h ∙ ap (λ (k : ℕ). drop k was) (sym n),
         )
     go (check.Refused why) b l = (ap (take offset) l, ap (drop (offset + encodedBytes r)) l)
 
 -- a refusal leaves the buffer as it was
 pub refusal-changes-nothing : (i : Input) (offset : ℕ) (was later : List ℕ) (why : Refusal) → Written i offset was later (encoded.Refused why) → later ≡ was
 refusal-changes-nothing i offset was later why p =
-    p .buffer ∙ ap (λ (c : Check). laterFor c i offset was) (check-determined (firstOf (writeRows maxFile i (length was) offset)) (check.Refused why) (sym (p .number)))
+    p .buffer ∙ ap (λ (c : Check). laterFor c i offset was) (check-determined (firstOf (writeRows (limitIn i) i (length was) offset)) (check.Refused why) (sym (p .number)))
 
 -- ---- the first row that applies
 
@@ -152,11 +152,11 @@ row-first (row ∷ rows) why (suc n) l c a none =
 
 -- the writing call refuses with a cause exactly where its row is the first of the table that applies
 pub refused-exactly : (i : Input) (offset : ℕ) (was later : List ℕ) (r : Encoded) (why : Refusal) → Written i offset was later r
-    → (encodedNumber r ≡ numberOf why → FirstRow (writeRows maxFile i (length was) offset) why)
-    × (FirstRow (writeRows maxFile i (length was) offset) why → encodedNumber r ≡ numberOf why)
+    → (encodedNumber r ≡ numberOf why → FirstRow (writeRows (limitIn i) i (length was) offset) why)
+    × (FirstRow (writeRows (limitIn i) i (length was) offset) why → encodedNumber r ≡ numberOf why)
 refused-exactly i offset was later r why p = (
-  λ e. first-row (writeRows maxFile i (length was) offset) why
-      (check-determined (firstOf (writeRows maxFile i (length was) offset)) (check.Refused why) (sym (p .number) ∙ e)),
+  λ e. first-row (writeRows (limitIn i) i (length was) offset) why
+      (check-determined (firstOf (writeRows (limitIn i) i (length was) offset)) (check.Refused why) (sym (p .number) ∙ e)),
   λ f. p .number
-      ∙ ap checkNumber (row-first (writeRows maxFile i (length was) offset) why (f .place) (f .inside) (f .cause) (f .applies) (f .none-before)),
+      ∙ ap checkNumber (row-first (writeRows (limitIn i) i (length was) offset) why (f .place) (f .inside) (f .cause) (f .applies) (f .none-before)),
 )

@@ -17,7 +17,7 @@ use Rattle.rows.specs.Stream.{stream, isUnder, countedBytes, Counted}
 use Rattle.format.specs.declared.layout.Coding.{Coding}
 use Rattle.format.specs.declared.layout.Coding.the-variants.{Stream, Nothing}
 use Rattle.format.specs.declared.layout.Layout.{Layout}
-use Rattle.format.specs.File.{rlePlanned, rawBytes, headBytes, streamOf, maxFile, budget, streamUsed, plainSize, boundOf}
+use Rattle.format.specs.File.{rlePlanned, rawBytes, headBytes, streamOf, maxFile, limitIn, budget, streamUsed, plainSize, boundOf}
 use Rattle.format.specs.Input.{Input}
 use Rattle.format.specs.Layout.{isStream, layoutOf}
 use Rattle.format.specs.Refusals.{fileTooLarge, streamOverBudget}
@@ -31,9 +31,9 @@ use Rattle.planner.proofs.FileWrites.{sizes-head, sizes-raw, sizes-file
 use Rattle.planner.proofs.LayoutLaws.{coding-planned}
 
 -- a budget has 32 bits
-pub budget-fits : (i : Input) (s : Sizes) → s ≡ sizesOf i → s .«rle_budget» ≤ 4294967296
+pub budget-fits : (i : Input) (l : Layout) (s : Sizes) → Planned i l s → s .«rle_budget» ≤ 4294967296
 unfolding sizesBy
-budget-fits i s e = omega (arith, ap (λ (t : Sizes). t .«rle_budget») e)
+budget-fits i l s p = omega (arith, ap (λ (t : Sizes). t .«rle_budget») (p .sizes-are), plan-passed i (p .passed) .0 .limited)
 
 -- ---- what a count says
 
@@ -50,20 +50,20 @@ module _ (n limit : ℕ) (count : StreamCount) (k : Counted n limit count) where
 
 -- where no stream is used, and the rows fit
 pub record RowsFit (i : Input) (s : Sizes) : Type 0 where
-  pub unused : streamUsed maxFile i ≡ false
-  pub over : streamOverBudget maxFile i ≡ false
+  pub unused : streamUsed (limitIn i) i ≡ false
+  pub over : streamOverBudget (limitIn i) i ≡ false
   pub fits : s .file ≤ maxFile
   pub room : s .file ≤ s .bound
 
 module _ (i : Input) (l : Layout) (s : Sizes) (p : Planned i l s) where
   bound-is : (b : Bool) → rlePlanned i ≡ b
-      → s .bound ≡ cond b (headBytes i + max (budget maxFile i + 2 * i .source .width + 2) (cond (leb (plainSize i) maxFile) (rawBytes i) 0)) (plainSize i)
+      → s .bound ≡ cond b (headBytes i + max (budget (limitIn i) i + 2 * i .source .width + 2) (cond (leb (plainSize i) (limitIn i)) (rawBytes i) 0)) (plainSize i)
   unfolding sizesBy budget plainSize
   bound-is b e =
       ap (λ (t : Sizes). t .bound) (p .sizes-are)
-      ∙ ap (λ (x : Bool). cond x (headBytes i + max (budget maxFile i + 2 * i .source .width + 2) (cond (leb (plainSize i) maxFile) (rawBytes i) 0)) (plainSize i)) e
+      ∙ ap (λ (x : Bool). cond x (headBytes i + max (budget (limitIn i) i + 2 * i .source .width + 2) (cond (leb (plainSize i) (limitIn i)) (rawBytes i) 0)) (plainSize i)) e
 
-  fits-is : s .«file_fits» ≡ leb (plainSize i) maxFile
+  fits-is : s .«file_fits» ≡ leb (plainSize i) (limitIn i)
   unfolding sizesBy plainSize
   fits-is = ap (λ (t : Sizes). t .«file_fits») (p .sizes-are)
 
@@ -72,9 +72,9 @@ module _ (i : Input) (l : Layout) (s : Sizes) (p : Planned i l s) where
   unfolding streamUsed streamOverBudget fileTooLarge layoutOf
   rows-alone none =
       let q : rlePlanned i ≡ false = sym (coding-planned (i .source) (i .options)) ∙ sym (ap (λ (x : Layout). isStream (x .coding)) (p .layout-is)) ∙ ap isStream none in
-      let small : plainSize i ≤ maxFile = ltb-false maxFile (plainSize i) (sym (ap (λ (b : Bool). not b && ltb maxFile (plainSize i)) q) ∙ plan-passed i (p .passed) .1) in
+      let small : plainSize i ≤ limitIn i = ltb-false (limitIn i) (plainSize i) (sym (ap (λ (b : Bool). not b && ltb (limitIn i) (plainSize i)) q) ∙ plan-passed i (p .passed) .1) in
       let file = sizes-file i s (p .sizes-are) in
-      record { unused = rw q; over = rw q; fits = omega (arith, file, small); room = omega (arith, file, bound-is false q) }
+      record { unused = rw q; over = rw q; fits = omega (arith, file, small, plan-passed i (p .passed) .0 .limited); room = omega (arith, file, bound-is false q) }
 
   -- by the count of a planned stream
   module _ (rle : Rle) (count : StreamCount) (ec : l .coding ≡ Stream rle)
@@ -82,23 +82,23 @@ module _ (i : Input) (l : Layout) (s : Sizes) (p : Planned i l s) where
     is-planned : rlePlanned i ≡ true
     is-planned = stream-planned i l rle (p .layout-is) ec
 
-    count-is : Counted (length (streamOf i)) (budget maxFile i) count
+    count-is : Counted (length (streamOf i)) (budget (limitIn i) i) count
     unfolding sizesBy budget
     count-is =
         subst (λ (b : ℕ). Counted (length (streamOf i)) b count) (ap (λ (t : Sizes). t .«rle_budget») (p .sizes-are))
         (subst (λ (x : List ℕ). Counted (length x) (s .«rle_budget») count) (stream-coded i l rle (p .layout-is) ec) en)
 
     -- under the budget the stream is written, and there is room for it
-    pub stream-under : (len : ℕ) → count ≡ Under len → Streamed i l s rle len × ((streamOverBudget maxFile i ≡ false) × (s .head + len ≤ s .bound))
+    pub stream-under : (len : ℕ) → count ≡ Under len → Streamed i l s rle len × ((streamOverBudget (limitIn i) i ≡ false) × (s .head + len ≤ s .bound))
     unfolding streamUsed streamOverBudget
     stream-under len u =
         let n = length (streamOf i) in
-        let b = budget maxFile i in
+        let b = budget (limitIn i) i in
         let both = under-is n b count count-is len u in
         let under : n < b = ltb-true n b (both .0) in (
           record { planned = p; coded = ec; used = rw (is-planned, both .0); long = both .1 },
           (
-            rw (is-planned, both .0) (and-none (ltb maxFile (plainSize i))),
+            rw (is-planned, both .0) (and-none (ltb (limitIn i) (plainSize i))),
             omega (arith, both .1, under, sizes-head i s (p .sizes-are), bound-is true is-planned),
           ),
         )
@@ -111,28 +111,28 @@ module _ (i : Input) (l : Layout) (s : Sizes) (p : Planned i l s) where
     pub rows-instead : count ≡ OverBudget → s .«file_fits» ≡ true → RowsFit i s
     unfolding streamUsed streamOverBudget
     rows-instead o f =
-        let q = over-is (length (streamOf i)) (budget maxFile i) count count-is o in
-        let yes : leb (plainSize i) maxFile ≡ true = sym fits-is ∙ f in
-        let small : plainSize i ≤ maxFile = leb-true (plainSize i) maxFile yes in
-        let bound : s .bound ≡ headBytes i + max (budget maxFile i + 2 * i .source .width + 2) (rawBytes i)
-        = bound-is true is-planned ∙ ap (λ (b : Bool). headBytes i + max (budget maxFile i + 2 * i .source .width + 2) (cond b (rawBytes i) 0)) yes in
+        let q = over-is (length (streamOf i)) (budget (limitIn i) i) count count-is o in
+        let yes : leb (plainSize i) (limitIn i) ≡ true = sym fits-is ∙ f in
+        let small : plainSize i ≤ limitIn i = leb-true (plainSize i) (limitIn i) yes in
+        let bound : s .bound ≡ headBytes i + max (budget (limitIn i) i + 2 * i .source .width + 2) (rawBytes i)
+        = bound-is true is-planned ∙ ap (λ (b : Bool). headBytes i + max (budget (limitIn i) i + 2 * i .source .width + 2) (cond b (rawBytes i) 0)) yes in
         let e = p .sizes-are in
         record {
           unused = rw (is-planned, q);
-          over = rw (is-planned, le-ltb maxFile (plainSize i) small);
-          fits = omega (arith, sizes-file i s e, small);
+          over = rw (is-planned, le-ltb (limitIn i) (plainSize i) small);
+          fits = omega (arith, sizes-file i s e, small, plan-passed i (p .passed) .0 .limited);
           room = omega (arith, bound, sizes-parts i s e, sizes-head i s e, sizes-raw i s e, no-tail i (planned-in i is-planned));
         }
 
     -- and else it is 16
-    pub stream-over : count ≡ OverBudget → s .«file_fits» ≡ false → streamOverBudget maxFile i ≡ true
+    pub stream-over : count ≡ OverBudget → s .«file_fits» ≡ false → streamOverBudget (limitIn i) i ≡ true
     unfolding streamOverBudget
     stream-over o f =
-        let q = over-is (length (streamOf i)) (budget maxFile i) count count-is o in
-        rw (is-planned, q, lt-ltb maxFile (plainSize i) (leb-false (plainSize i) maxFile (sym fits-is ∙ f)))
+        let q = over-is (length (streamOf i)) (budget (limitIn i) i) count count-is o in
+        rw (is-planned, q, lt-ltb (limitIn i) (plainSize i) (leb-false (plainSize i) (limitIn i) (sym fits-is ∙ f)))
 
 -- answer and buffer by that test
-module _ (i : Input) (b : Bool) (e : streamOverBudget maxFile i ≡ b) where
+module _ (i : Input) (b : Bool) (e : streamOverBudget (limitIn i) i ≡ b) where
   pub answer-by : (r : Encoded) → r ≡ encodedFor (firstOf ((b, StreamOverBudget) ∷ [])) i → r ≡ encodedFor (streamCheck i) i
   answer-by r q = q ∙ sym (ap (λ (t : Bool). encodedFor (firstOf ((t, StreamOverBudget) ∷ [])) i) e)
 

@@ -9,7 +9,7 @@ use Rattle.leaves.specs.declared.error.Check.the-variants as check
 use Rattle.leaves.specs.Put.{put}
 use Rattle.leaves.specs.Refusals.{numberOf, checkNumber, firstOf, firstNumber}
 use Rattle.format.specs.Demand.{Demand3}
-use Rattle.format.specs.File.{maxFile, fileSize, fileOf, boundOf, formatOf}
+use Rattle.format.specs.File.{limitIn, fileSize, fileOf, boundOf, formatOf}
 use Rattle.format.specs.Input.{Input}
 use Rattle.format.specs.Refusals.{planRows, writeRows}
 use Rattle.planner.specs.declared.encoder.Encoded.{Encoded}
@@ -41,24 +41,24 @@ encodedFormat (encoded.Refused why) = []
 -- what they must be, and the later buffer: "After a refusal the whole buffer is as before. After a file, bytes before the offset and after the
 -- last appended byte are as before"
 abbrev pub bytesFor : Check → Input → ℕ
-bytesFor check.Passed i = fileSize maxFile i
+bytesFor check.Passed i = fileSize (limitIn i) i
 bytesFor (check.Refused why) i = 0
 
 abbrev pub formatFor : Check → Input → List EncodedBmpFormat
-formatFor check.Passed i = formatOf maxFile i ∷ []
+formatFor check.Passed i = formatOf (limitIn i) i ∷ []
 formatFor (check.Refused why) i = []
 
 abbrev pub laterFor : Check → Input → ℕ → List ℕ → List ℕ
-laterFor check.Passed i offset was = put was offset (fileOf maxFile i)
+laterFor check.Passed i offset was = put was offset (fileOf (limitIn i) i)
 laterFor (check.Refused why) i offset was = was
 
 -- the promise of the writing call, of the answer and of the buffer as it was and as it is later
 pub record Written (i : Input) (offset : ℕ) (was later : List ℕ) (answer : Encoded) : Type 0 where
   -- the first row of the table that applies, or 0
-  pub number : encodedNumber answer ≡ firstNumber (writeRows maxFile i (length was) offset)
-  pub bytes : encodedBytes answer ≡ bytesFor (firstOf (writeRows maxFile i (length was) offset)) i
-  pub format : encodedFormat answer ≡ formatFor (firstOf (writeRows maxFile i (length was) offset)) i
-  pub buffer : later ≡ laterFor (firstOf (writeRows maxFile i (length was) offset)) i offset was
+  pub number : encodedNumber answer ≡ firstNumber (writeRows (limitIn i) i (length was) offset)
+  pub bytes : encodedBytes answer ≡ bytesFor (firstOf (writeRows (limitIn i) i (length was) offset)) i
+  pub format : encodedFormat answer ≡ formatFor (firstOf (writeRows (limitIn i) i (length was) offset)) i
+  pub buffer : later ≡ laterFor (firstOf (writeRows (limitIn i) i (length was) offset)) i offset was
   -- demand 3, of the appended bytes alone
   pub shown : encodedNumber answer ≡ 0 → Demand3 i (take (encodedBytes answer) (drop offset later))
 
@@ -73,13 +73,13 @@ boundBytes (sized.Bytes bytes) = bytes
 boundBytes (sized.Refused why) = 0
 
 abbrev pub boundFor : Check → Input → ℕ
-boundFor check.Passed i = boundOf maxFile i
+boundFor check.Passed i = boundOf (limitIn i) i
 boundFor (check.Refused why) i = 0
 
 -- the promise of the size query
 pub record Sized (i : Input) (answer : SizeBound) : Type 0 where
-  pub number : boundNumber answer ≡ firstNumber (planRows maxFile i)
-  pub bytes : boundBytes answer ≡ boundFor (firstOf (planRows maxFile i)) i
+  pub number : boundNumber answer ≡ firstNumber (planRows (limitIn i) i)
+  pub bytes : boundBytes answer ≡ boundFor (firstOf (planRows (limitIn i) i)) i
 
 -- ---- the plan, which both calls make first: 0 with what is planned, or the refusal's number
 

@@ -5,6 +5,8 @@ use mathlib.Core.Bool.{Bool, true, not, cond, _&&_}
 use mathlib.Core.List.{List, [], _∷_, _++_}
 use lib.Dec.{ltb, leb}
 use lib.ListN.{length}
+use mir.Syntax.{w32}
+use mir.Val.{ofZ}
 use Rattle.leaves.specs.declared.encoder.EncodeSource.{EncodeSource}
 use Rattle.leaves.specs.declared.error.Check.{Check}
 use Rattle.leaves.specs.declared.error.Check.the-variants as check
@@ -18,7 +20,7 @@ use Rattle.leaves.specs.Sizes.{clrUsed}
 use Rattle.format.specs.declared.layout.Layout.{Layout}
 use Rattle.format.specs.declared.layout.Mode.{Mode}
 use Rattle.format.specs.declared.layout.Mode.the-variants.{Masked, Calibrated, Profiled, Plain}
-use Rattle.format.specs.File.{rawBytes, headBytes, tailOf, rlePlanned, streamOf, maxFile, streamUsed, fileSize, formatOf, pelsPerMeter, tableEntry}
+use Rattle.format.specs.File.{rawBytes, headBytes, tailOf, rlePlanned, streamOf, limitIn, streamUsed, fileSize, formatOf, tableEntry}
 use Rattle.format.specs.Headers.{fileHeader, infoHeader}
 use Rattle.format.specs.Input.{Input}
 use Rattle.format.specs.Layout.{isStream, maskTail, headRest, headLen, rawLen, wantsRle, layoutOf}
@@ -72,23 +74,23 @@ orZero check.Passed n = n
 orZero (check.Refused why) n = 0
 
 -- the promise of the plan
-pub record PlannedBy (limit : ℕ) (s : EncodeSource) (o : EncodeOptions) (planeBytes paletteBytes profileBytes : ℕ) (answer : Plan) : Type 0 where
+pub record PlannedBy (s : EncodeSource) (o : EncodeOptions) (planeBytes paletteBytes profileBytes : ℕ) (answer : Plan) : Type 0 where
   -- the first of 1 to 14 that applies, or 0
-  pub number : planNumber answer ≡ firstNumber (lengthRows limit s o planeBytes paletteBytes profileBytes)
-  pub bound : planBound answer ≡ orZero (firstOf (lengthRows limit s o planeBytes paletteBytes profileBytes)) (sizesBy limit (headLen s o paletteBytes) (rawLen s o) profileBytes (wantsRle s o) (s .width) .bound)
-  pub layout : planLayout answer ≡ passing (firstOf (lengthRows limit s o planeBytes paletteBytes profileBytes)) (layoutOf s o paletteBytes)
-  pub sizes : planSizes answer ≡ passing (firstOf (lengthRows limit s o planeBytes paletteBytes profileBytes)) (sizesBy limit (headLen s o paletteBytes) (rawLen s o) profileBytes (wantsRle s o) (s .width))
+  pub number : planNumber answer ≡ firstNumber (lengthRows (o .limit) s o planeBytes paletteBytes profileBytes)
+  pub bound : planBound answer ≡ orZero (firstOf (lengthRows (o .limit) s o planeBytes paletteBytes profileBytes)) (sizesBy (o .limit) (headLen s o paletteBytes) (rawLen s o) profileBytes (wantsRle s o) (s .width) .bound)
+  pub layout : planLayout answer ≡ passing (firstOf (lengthRows (o .limit) s o planeBytes paletteBytes profileBytes)) (layoutOf s o paletteBytes)
+  pub sizes : planSizes answer ≡ passing (firstOf (lengthRows (o .limit) s o planeBytes paletteBytes profileBytes)) (sizesBy (o .limit) (headLen s o paletteBytes) (rawLen s o) profileBytes (wantsRle s o) (s .width))
 
 -- a call's layout and sizes
 abbrev pub layoutIn : Input → Layout
 layoutIn i = layoutOf (i .source) (i .options) (length (i .palette))
 
 abbrev pub sizesOf : Input → Sizes
-sizesOf i = sizesBy maxFile (headBytes i) (rawBytes i) (length (tailOf i)) (rlePlanned i) (i .source .width)
+sizesOf i = sizesBy (limitIn i) (headBytes i) (rawBytes i) (length (tailOf i)) (rlePlanned i) (i .source .width)
 
 -- what is known of a call whose plan is ready
 pub record Planned (i : Input) (layout : Layout) (sizes : Sizes) : Type 0 where
-  pub passed : firstOf (planRows maxFile i) ≡ check.Passed
+  pub passed : firstOf (planRows (limitIn i) i) ≡ check.Passed
   pub layout-is : layout ≡ layoutIn i
   pub sizes-are : sizes ≡ sizesOf i
 
@@ -96,7 +98,7 @@ pub record Planned (i : Input) (layout : Layout) (sizes : Sizes) : Type 0 where
 pub record Streamed (i : Input) (layout : Layout) (sizes : Sizes) (rle : Rle) (len : ℕ) : Type 0 where
   pub planned : Planned i layout sizes
   pub coded : layout .coding ≡ Stream rle
-  pub used : streamUsed maxFile i ≡ true
+  pub used : streamUsed (limitIn i) i ≡ true
   pub long : len ≡ length (streamOf i)
 
 -- ---- the head
@@ -126,8 +128,8 @@ headBy layout s o palette head compression imageSize fileSize profileSize profil
       «bit_count» = layout .«bit_count»;
       compression = compression;
       «image_size» = imageSize;
-      «x_pels» = pelsPerMeter;
-      «y_pels» = pelsPerMeter;
+      «x_pels» = ofZ w32 (o .«x_pels_per_meter»);
+      «y_pels» = ofZ w32 (o .«y_pels_per_meter»);
       «clr_used» = clrUsed (layout .«bit_count») (layout .entries);
     })
     ++ headRest (layout .mode) s o profileSize profileData
@@ -137,12 +139,12 @@ headBy layout s o palette head compression imageSize fileSize profileSize profil
 
 -- the answer of a check
 abbrev pub encodedFor : Check → Input → Encoded
-encodedFor check.Passed i = encoded.File (formatOf maxFile i) (fileSize maxFile i)
+encodedFor check.Passed i = encoded.File (formatOf (limitIn i) i) (fileSize (limitIn i) i)
 encodedFor (check.Refused why) i = encoded.Refused why
 
 -- 16, the last of the table
 abbrev pub streamCheck : Input → Check
-streamCheck i = firstOf ((streamOverBudget maxFile i, StreamOverBudget) ∷ [])
+streamCheck i = firstOf ((streamOverBudget (limitIn i) i, StreamOverBudget) ∷ [])
 
 -- the answer where a plan is not ready; of a ready one it is free
 abbrev pub refusalOf : Plan → Encoded

@@ -13,6 +13,7 @@ ghost use Rattle.planner.specs.Answers.{Written, laterFor};
 ghost use Rattle.planner.specs.Calls.{called, chosen};
 ghost use Rattle.planner.specs.Plans.{Planned, Streamed, restLen, headBy, streamCheck, encodedFor, refusalOf};
 use crate::heads::FirstFields;
+use crate::heads::long_bits;
 use crate::heads::put_dwords;
 use crate::heads::write_color_table;
 use crate::heads::write_first_fields;
@@ -43,9 +44,6 @@ use rows::counting::StreamCount;
 use rows::counting::rle_len;
 use rows::rle::Rle;
 use rows::rle::rle_into;
-
-// biXPelsPerMeter and biYPelsPerMeter: 72 dots an inch.
-const PELS_PER_METER: u32 = 2835;
 
 // The answer of the writing call.
 pub enum Encoded {
@@ -163,8 +161,8 @@ fn write_head(
             bit_count: layout.bit_count,
             compression,
             image_size,
-            x_pels: PELS_PER_METER,
-            y_pels: PELS_PER_METER,
+            x_pels: long_bits(options.x_pels_per_meter),
+            y_pels: long_bits(options.y_pels_per_meter),
             clr_used: clr_used(layout.bit_count, entries),
         },
     );
@@ -188,7 +186,7 @@ fn write_stream(
     requires { ⌜ Streamed (chosen src options (now plane) (now palette) []) layout sizes rle len ⌝ }
     requires { ⌜ at + sizes .head + len ≤ length (now buf) ⌝ }
     ensures { λ r. ⌜ r ≡ encodedFor Passed (chosen src options (now (plane .entry)) (now (palette .entry)) []) ⌝ }
-    ensures { λ _. ⌜ now (buf .exit) ≡ put (now (buf .entry)) at (fileOf maxFile (chosen src options (now (plane .entry)) (now (palette .entry)) [])) ⌝ }
+    ensures { λ _. ⌜ now (buf .exit) ≡ put (now (buf .entry)) at (fileOf (options .limit) (chosen src options (now (plane .entry)) (now (palette .entry)) [])) ⌝ }
 {
     let head = sizes.head;
     let size = head + len;
@@ -231,12 +229,12 @@ fn write_rows(
     at: usize,
 ) -> Encoded
     requires { ⌜ Planned (chosen src options (now plane) (now palette) (now profile)) layout sizes ⌝ }
-    requires { ⌜ streamUsed maxFile (chosen src options (now plane) (now palette) (now profile)) ≡ false ⌝ }
+    requires { ⌜ streamUsed (options .limit) (chosen src options (now plane) (now palette) (now profile)) ≡ false ⌝ }
     requires { ⌜ now profile ≡ tailOf (chosen src options (now plane) (now palette) (now profile)) ⌝ }
     requires { ⌜ sizes .file ≤ maxFile ⌝ }
     requires { ⌜ at + sizes .file ≤ length (now buf) ⌝ }
     ensures { λ r. ⌜ r ≡ encodedFor Passed (chosen src options (now (plane .entry)) (now (palette .entry)) (now (profile .entry))) ⌝ }
-    ensures { λ _. ⌜ now (buf .exit) ≡ put (now (buf .entry)) at (fileOf maxFile (chosen src options (now (plane .entry)) (now (palette .entry)) (now (profile .entry)))) ⌝ }
+    ensures { λ _. ⌜ now (buf .exit) ≡ put (now (buf .entry)) at (fileOf (options .limit) (chosen src options (now (plane .entry)) (now (palette .entry)) (now (profile .entry)))) ⌝ }
 {
     let head = sizes.head;
     let raw = sizes.raw as u32;

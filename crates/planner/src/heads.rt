@@ -46,7 +46,7 @@ pub(crate) fn put_dwords(buf: &mut [u8], at: usize, src: &[u32])
 }
 
 // A LONG as its 32 bits.
-fn long_bits(v: i32) -> u32
+pub(crate) fn long_bits(v: i32) -> u32
     ensures { λ r. ⌜ r ≡ ofZ w32 v ⌝ }
 {
     if v < 0 {

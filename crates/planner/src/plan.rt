@@ -26,6 +26,7 @@ use leaves::checks::check_dimensions;
 use leaves::checks::check_modes;
 use leaves::checks::check_palette;
 use leaves::checks::check_plane;
+use leaves::checks::check_settings;
 use leaves::checks::profile_mode;
 use leaves::encoder::EncodeSource;
 use leaves::error::Check;
@@ -33,9 +34,6 @@ use leaves::error::Refusal;
 use leaves::image::BmpPixelFormat;
 use leaves::options::EncodeOptions;
 use leaves::types::row_stride;
-
-// The largest file that bfSize can record.
-const MAX_FILE: usize = 0xFFFF_FFFF;
 
 // The byte counts of a call.
 pub struct Sizes {
@@ -87,7 +85,7 @@ fn check_masks(src: EncodeSource, options: EncodeOptions) -> Check
     Check::Passed
 }
 
-// 1 to 13, of a plane and a palette of so many bytes.
+// 1 to 13 with 20 and 21, of a plane and a palette of so many bytes.
 fn checks(
     src: EncodeSource,
     options: EncodeOptions,
@@ -100,11 +98,21 @@ fn checks(
     let profile = profile_mode(src.has_linked_icc, src.has_icc, options.embed_icc);
     let pixel = format.bytes_per_pixel();
     let dimensions = check_dimensions(src.width, src.height);
+    let settings = check_settings(
+        options.limit,
+        options.x_pels_per_meter,
+        options.y_pels_per_meter,
+    );
     let palette = check_palette(format.is_indexed(), src.has_palette, palette_bytes);
     let modes = check_modes(options.has_bitfields, options.has_calibrated_rgb, profile);
     let masks = check_masks(src, options);
     let plane = check_plane(src.width, src.height, src.stride, pixel, plane_bytes);
-    dimensions.or(palette).or(modes).or(masks).or(plane)
+    dimensions
+        .or(settings)
+        .or(palette)
+        .or(modes)
+        .or(masks)
+        .or(plane)
 }
 
 fn is_stream(coding: Coding) -> bool
@@ -201,7 +209,7 @@ fn sizes_for(
     Plan::Refused(Refusal::FileTooLarge)
 }
 
-// 1 to 14, and layout and sizes of what they let pass.
+// 1 to 14 with 20 and 21, and layout and sizes of what they let pass.
 pub(crate) fn plan_for(
     mode: Mode,
     src: EncodeSource,
@@ -212,7 +220,7 @@ pub(crate) fn plan_for(
 ) -> Plan
     requires { ⌜ mode ≡ modeOf src options ⌝ }
     requires { ⌜ (wantsRle src options ≡ true → «profile_bytes» ≡ 0) ⌝ }
-    ensures { λ r. ⌜ PlannedBy maxFile src options «plane_bytes» «palette_bytes» «profile_bytes» r ⌝ }
+    ensures { λ r. ⌜ PlannedBy src options «plane_bytes» «palette_bytes» «profile_bytes» r ⌝ }
 {
     let check = checks(src, options, plane_bytes, palette_bytes);
     if let Check::Refused(why) = check {
@@ -221,7 +229,14 @@ pub(crate) fn plan_for(
     let layout = layout_of(mode, src, options, palette_bytes);
     let head = head_len(layout, src, options, palette_bytes);
     let raw = row_stride(src.width, layout.bit_count) * src.height as usize;
-    sizes_for(layout, head, raw, profile_bytes, src.width, MAX_FILE)
+    sizes_for(
+        layout,
+        head,
+        raw,
+        profile_bytes,
+        src.width,
+        options.limit as usize,
+    )
 }
 
 // How many bytes a writing call asks for.

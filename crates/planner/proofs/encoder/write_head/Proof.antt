@@ -10,6 +10,7 @@ use Rattle.format.specs.File.{tableEntry}
 use Rattle.format.specs.Layout.{headRest}
 use Rattle.planner.specs.Plans.{firstFields, headBy}
 use Rattle.planner.proofs.HeadWrites.{rest-room, head-written}
+use Rattle.planner.proofs.Longs.{long-of}
 use borrow.Author.Needs.{needs}
 use Rattle.planner.proofs.encoder.write_head.Statement.{statement}
 use Rattle.planner.proofs.encoder.write_head.Tie as tie
@@ -20,6 +21,12 @@ cast-t18 c = search needs
 stored-height-requires : tie.Need-stored-height-requires
 stored-height-requires c κs = search needs
 
+long-bits-requires : tie.Need-long-bits-requires
+long-bits-requires c κs = search needs
+
+long-bits-requires-2 : tie.Need-long-bits-requires-2
+long-bits-requires-2 c κs = search needs
+
 clr-used-requires : tie.Need-clr-used-requires
 clr-used-requires c κs = search needs
 
@@ -27,11 +34,11 @@ write-first-fields-requires : tie.Need-write-first-fields-requires
 write-first-fields-requires c κs = search needs
 
 add-write-rest : tie.Need-add-write-rest
-add-write-rest c = let s = c .before .before .before .before .before .before .before .before .before in record { fits = omega (arith, s .pre .1 .1 .1 .0, s .pre .1 .1 .1 .1, s .good .1 .1 .1 .1 .1 .1 .1 .1 .1 .1 .0) }
+add-write-rest c = let s = c .before .before .before .before .before .before .before .before .before .before .before .before .before in record { fits = omega (arith, s .pre .1 .1 .1 .0, s .pre .1 .1 .1 .1, s .good .1 .1 .1 .1 .1 .1 .1 .1 .1 .1 .0) }
 
 write-rest-requires : tie.Need-write-rest-requires
 write-rest-requires c κs =
-    let s = c .before .before .before .before .before .before .before .before .before in
+    let s = c .before .before .before .before .before .before .before .before .before .before .before .before .before in
     let a = s .args in
     let g = s .good .1 .1 .0 .1 .1 .1 .1 .1 .1 .1 .1 .1 .1 .0 .1 .1 in
     let nine = length-unmapped ℤ (a .options .«calibrated_rgb» .endpoints) 9 (g .0 .1 .0 .1) in
@@ -40,17 +47,19 @@ write-rest-requires c κs =
     omega (arith, rest, s .pre .1 .1 .1 .0, s .pre .1 .1 .1 .1, c .before .before .before .write-first-fields .kept .0)
 
 add-write-color-table : tie.Need-add-write-color-table
-add-write-color-table c = let s = c .before .before .before .before .before .before .before .before .before .before .before .before .before in record { fits = omega (arith, s .pre .1 .1 .1 .1, s .good .1 .1 .1 .1 .1 .1 .1 .1 .1 .1 .0) }
+add-write-color-table c = let s = c .before .before .before .before .before .before .before .before .before .before .before .before .before .before .before .before .before in record { fits = omega (arith, s .pre .1 .1 .1 .1, s .good .1 .1 .1 .1 .1 .1 .1 .1 .1 .1 .0) }
 
 mul-write-color-table : tie.Need-mul-write-color-table
 mul-write-color-table c = search needs
 
 sub-write-color-table : tie.Need-sub-write-color-table
-sub-write-color-table c = search needs
+sub-write-color-table c =
+    let s = c .before .before .before .before .before .before .before .before .before .before .before .before .before .before .before .before .before in
+    omega (arith, s .pre .1 .1 .1 .0)
 
 write-color-table-requires : tie.Need-write-color-table-requires
 write-color-table-requires c κs =
-    let s = c .before .before .before .before .before .before .before .before .before .before .before .before .before in
+    let s = c .before .before .before .before .before .before .before .before .before .before .before .before .before .before .before .before .before in
     (s .pre .1 .0, omega (arith, s .pre .1 .1 .1 .0, s .pre .1 .1 .1 .1, c .before .before .before .before .before .before .before .write-first-fields .kept .0, c .before .before .before .write-rest .kept .1 .1 .1 .1 .1 .0))
 
 same-length : tie.Need-same-length
@@ -59,8 +68,12 @@ same-length c = search needs
 returns : tie.Need-returns
 unfolding headBy
 returns c =
-    let s = c .before .before .before .before .before .before .before .before .before .before .before .before .before .before .before .before in
+    let s = c .before .before .before .before .before .before .before .before .before .before .before .before .before .before .before .before .before .before .before .before in
     let a = s .args in
+    let lx = c .before .before .before .before .before .before .before .before .before .before .before .before .before .before in
+    let ly = c .before .before .before .before .before .before .before .before .before .before .before .before in
+    let x = long-of (a .options .«x_pels_per_meter») (lx .long-bits .result) (lx .before .struct-told .given .1 .1 .1 .1 .1 .1 .1 .1 .1 .1 .0 .1) (lx .long-bits .ensures) in
+    let y = long-of (a .options .«y_pels_per_meter») (ly .long-bits2 .result) (ly .before .struct-told2 .given .1 .1 .1 .1 .1 .1 .1 .1 .1 .1 .1 .0 .1) (ly .long-bits2 .ensures) in
     let w1 = c .before .before .before .before .before .before .before .before .before .before .write-first-fields in
     let w2 = c .before .before .before .before .before .before .write-rest in
     let w3 = c .before .before .write-color-table in
@@ -71,12 +84,12 @@ returns c =
       «pixel_offset» = a .head;
       «header_size» = a .layout .«header_size»;
       width = a .src .width;
-      «stored_height» = c .before .before .before .before .before .before .before .before .before .before .before .before .stored-height .ensures z;
+      «stored_height» = c .before .before .before .before .before .before .before .before .before .before .before .before .before .before .before .before .stored-height .ensures z;
       «bit_count» = a .layout .«bit_count»;
       compression = a .compression;
       «image_size» = a .image-size;
-      «x_pels» = 2835;
-      «y_pels» = 2835;
+      «x_pels» = x z;
+      «y_pels» = y z;
       «clr_used» = c .before .before .before .before .before .before .before .before .before .before .before .clr-used .ensures z;
     }) ++ headRest (a .layout .mode) (a .src) (a .options) (a .profile-size) (a .profile-data) ++ cat (tableEntry (a .palette .now)) (a .layout .entries)))
 
@@ -86,6 +99,8 @@ write-head-spec =
     (tie.spec
     cast-t18
     stored-height-requires
+    long-bits-requires
+    long-bits-requires-2
     clr-used-requires
     write-first-fields-requires
     add-write-rest

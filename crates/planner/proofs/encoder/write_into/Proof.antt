@@ -7,7 +7,7 @@ use native.Mathlib.Omega.{arith}
 use borrow.Author.Tests.{not-true, not-false}
 use Rattle.leaves.specs.declared.error.Check.the-variants.{Passed}
 use Rattle.leaves.specs.Put.{put}
-use Rattle.format.specs.File.{maxFile, fileOf}
+use Rattle.format.specs.File.{fileOf}
 use Rattle.format.proofs.Acceptance.{plan-passed}
 use Rattle.format.proofs.Modes.{tail-empty, used-in}
 use Rattle.planner.specs.Calls.{chosen}
@@ -29,7 +29,7 @@ rle-len-requires c κs =
     let p = s .pre .0 in
     let k = c .before .coding .given in
     let checked = plan-passed i (p .passed) .0 in
-    (stream-inside i (a .layout) (k .0 .0) (p .layout-is) (k .1) (checked .rows-inside), (checked .plane-long, budget-fits i (a .sizes) (p .sizes-are)))
+    (stream-inside i (a .layout) (k .0 .0) (p .layout-is) (k .1) (checked .rows-inside), (checked .plane-long, budget-fits i (a .layout) (a .sizes) p))
 
 enum-known-count : tie.Need-enum-known-count
 enum-known-count c = search needs
@@ -44,7 +44,7 @@ write-stream-requires c κs =
     let n = c .before .before .before .before .rle-len in
     let u = c .before .before .count .given in
     let g = stream-under i (a .layout) (a .sizes) p (k .0 .0) (n .result) (k .1) (n .ensures) (u .0 .0) (u .1) in
-    let none = s .pre .1 .0 ∙ tail-empty i (used-in maxFile i (g .0 .used) .planned) in
+    let none = s .pre .1 .0 ∙ tail-empty i (used-in (a .options .limit) i (g .0 .used) .planned) in
     (subst (λ (x : List ℕ). Streamed (chosen (a .src) (a .options) (a .plane .now) (a .palette .now) x) (a .layout) (a .sizes) (k .0 .0) (u .0 .0)) none (g .0), omega (arith, g .1 .1, s .pre .1 .1))
 
 same-length : tie.Need-same-length
@@ -60,11 +60,11 @@ returns c =
     let n = c .before .before .before .before .before .before .before .rle-len in
     let u = c .before .before .before .before .before .count .given in
     let g = stream-under i (a .layout) (a .sizes) p (k .0 .0) (n .result) (k .1) (n .ensures) (u .0 .0) (u .1) in
-    let none = s .pre .1 .0 ∙ tail-empty i (used-in maxFile i (g .0 .used) .planned) in
+    let none = s .pre .1 .0 ∙ tail-empty i (used-in (a .options .limit) i (g .0 .used) .planned) in
     let w = c .before .before .write-stream in (
       answer-by i false (g .1 .0) (w .result) (w .ensures .0 ∙ ap (λ (x : List ℕ). encodedFor Passed (chosen (a .src) (a .options) (a .plane .now) (a .palette .now) x)) (sym none)),
       later-by i false (g .1 .0) (a .at) (a .buf .now) (w .last .1 .1 .1 .1 .1 .1 .1 .1 .0)
-          (w .ensures .1 ∙ ap (λ (x : List ℕ). put (a .buf .now) (a .at) (fileOf maxFile (chosen (a .src) (a .options) (a .plane .now) (a .palette .now) x))) (sym none)),
+          (w .ensures .1 ∙ ap (λ (x : List ℕ). put (a .buf .now) (a .at) (fileOf (a .options .limit) (chosen (a .src) (a .options) (a .plane .now) (a .palette .now) x))) (sym none)),
     )
 
 enum-told : tie.Need-enum-told

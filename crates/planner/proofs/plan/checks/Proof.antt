@@ -3,9 +3,10 @@ use mathlib.Core.Bool.{Bool}
 use mathlib.Core.List.{_++_}
 use Prim.Native.Nat.{ℕ}
 use Rattle.leaves.specs.Formats.{isIndexed, bytesPerPixel}
-use Rattle.leaves.specs.Refusals.{firstOf, profileMode, dimensionRows, paletteRows, modeRows, planeRows}
+use Rattle.leaves.specs.Refusals.{firstOf, profileMode, dimensionRows, settingsRows, paletteRows, modeRows, planeRows}
 use Rattle.format.specs.Refusals.{givenMasksRows, checkRows}
 use Rattle.leaves.proofs.FirstOf.{first-next}
+use Rattle.planner.proofs.Longs.{long-is}
 use borrow.Author.Needs.{needs}
 use Rattle.planner.proofs.plan.checks.Statement.{statement}
 use Rattle.planner.proofs.plan.checks.Tie as tie
@@ -18,6 +19,9 @@ bytes-per-pixel-requires c κs = search needs
 
 check-dimensions-requires : tie.Need-check-dimensions-requires
 check-dimensions-requires c κs = search needs
+
+check-settings-requires : tie.Need-check-settings-requires
+check-settings-requires c κs = search needs
 
 is-indexed-requires : tie.Need-is-indexed-requires
 is-indexed-requires c κs = search needs
@@ -46,29 +50,45 @@ or-requires-3 c κs = search needs
 or-requires-4 : tie.Need-or-requires-4
 or-requires-4 c κs = search needs
 
+or-requires-5 : tie.Need-or-requires-5
+or-requires-5 c κs = search needs
+
 returns : tie.Need-returns
 unfolding checkRows
 returns c =
-    let s = c .before .before .before .before .before .before .before .before .before .before .before .before .args .src in
-    let o = c .before .before .before .before .before .before .before .before .before .before .before .before .args .options in
-    let dimension = c .before .before .before .before .before .before .before .before .before .check-dimensions in
-    let indexed = c .before .before .before .before .before .before .before .before .is-indexed in
-    let palette = c .before .before .before .before .before .before .before .check-palette in
-    let mode = c .before .before .before .before .before .before .check-modes in
-    let mask = c .before .before .before .before .before .check-masks in
-    let plane = c .before .before .before .before .check-plane in
+    let palette = c .before .before .before .before .before .before .before .before in
+    let dimension = palette .before .before .before .before .before in
+    let start = dimension .before .before .before in
+    let s = start .args .src in
+    let o = start .args .options in
+    let n = start .args .palette-bytes in
+    let m = start .args .plane-bytes in
+    let settings = palette .before .before .check-settings in
+    let x = long-is (o .«x_pels_per_meter») (palette .before .before .before .before .struct-told .given .1 .1 .1 .1 .1 .1 .1 .1 .1 .1 .0 .1) in
+    let y = long-is (o .«y_pels_per_meter») (palette .before .before .before .struct-told2 .given .1 .1 .1 .1 .1 .1 .1 .1 .1 .1 .1 .0 .1) in
+    let indexed = palette .before .is-indexed in
+    let mode = c .before .before .before .before .before .before .before .check-modes in
+    let mask = c .before .before .before .before .before .before .check-masks in
+    let plane = c .before .before .before .before .before .check-plane in
     let dimensions = dimensionRows (s .width) (s .height) in
-    let palettes = paletteRows (isIndexed (s .format)) (s .«has_palette») (c .before .before .before .before .before .before .before .before .before .before .before .before .args .palette-bytes) in
+    let setting = settingsRows (o .limit) (o .«x_pels_per_meter») (o .«y_pels_per_meter») in
+    let palettes = paletteRows (isIndexed (s .format)) (s .«has_palette») n in
     let modes = modeRows (o .«has_bitfields») (o .«has_calibrated_rgb») (profileMode (s .«has_linked_icc») (s .«has_icc») (o .«embed_icc»)) in
     let masks = givenMasksRows s o in
-    let planes = planeRows (s .width) (s .height) (s .stride) (bytesPerPixel (s .format)) (c .before .before .before .before .before .before .before .before .before .before .before .before .args .plane-bytes) in
-    let two = first-next dimensions palettes (dimension .result) (palette .result) (c .before .before .before .or .result) (dimension .ensures)
-    (palette .ensures ∙ ap (λ (x : Bool). firstOf (paletteRows x (s .«has_palette») (c .before .before .before .before .before .before .before .before .before .before .before .before .args .palette-bytes))) (indexed .ensures)) (c .before .before .before .or .ensures) in
-    let three = first-next (dimensions ++ palettes) modes (c .before .before .before .or .result) (mode .result) (c .before .before .or2 .result) two
-    (mode .ensures ∙ ap (λ (x : Bool). firstOf (modeRows (o .«has_bitfields») (o .«has_calibrated_rgb») x)) (c .before .before .before .before .before .before .before .before .before .before .before .profile-mode .ensures)) (c .before .before .or2 .ensures) in
-    let four = first-next (dimensions ++ palettes ++ modes) masks (c .before .before .or2 .result) (mask .result) (c .before .or3 .result) three (mask .ensures) (c .before .or3 .ensures) in
-    first-next (dimensions ++ palettes ++ modes ++ masks) planes (c .before .or3 .result) (plane .result) (c .or4 .result) four
-    (plane .ensures ∙ ap (λ (x : ℕ). firstOf (planeRows (s .width) (s .height) (s .stride) x (c .before .before .before .before .before .before .before .before .before .before .before .before .args .plane-bytes))) (c .before .before .before .before .before .before .before .before .before .before .bytes-per-pixel .ensures)) (c .or4 .ensures)
+    let planes = planeRows (s .width) (s .height) (s .stride) (bytesPerPixel (s .format)) m in
+    let one = c .before .before .before .before .or in
+    let two = c .before .before .before .or2 in
+    let three = c .before .before .or3 in
+    let four = c .before .or4 in
+    let set = first-next dimensions setting (dimension .check-dimensions .result) (settings .result) (one .result) (dimension .check-dimensions .ensures)
+    (settings .ensures ∙ (λ z. firstOf (settingsRows (o .limit) (x z) (y z)))) (one .ensures) in
+    let table = first-next (dimensions ++ setting) palettes (one .result) (palette .check-palette .result) (two .result) set
+    (palette .check-palette .ensures ∙ ap (λ (x : Bool). firstOf (paletteRows x (s .«has_palette») n)) (indexed .ensures)) (two .ensures) in
+    let moded = first-next (dimensions ++ setting ++ palettes) modes (two .result) (mode .result) (three .result) table
+    (mode .ensures ∙ ap (λ (x : Bool). firstOf (modeRows (o .«has_bitfields») (o .«has_calibrated_rgb») x)) (dimension .before .before .profile-mode .ensures)) (three .ensures) in
+    let masked = first-next (dimensions ++ setting ++ palettes ++ modes) masks (three .result) (mask .result) (four .result) moded (mask .ensures) (four .ensures) in
+    first-next (dimensions ++ setting ++ palettes ++ modes ++ masks) planes (four .result) (plane .result) (c .or5 .result) masked
+    (plane .ensures ∙ ap (λ (x : ℕ). firstOf (planeRows (s .width) (s .height) (s .stride) x m)) (dimension .before .bytes-per-pixel .ensures)) (c .or5 .ensures)
 
 pub checks-spec : {M : Type 1} → statement M
 checks-spec =
@@ -77,6 +97,7 @@ checks-spec =
     profile-mode-requires
     bytes-per-pixel-requires
     check-dimensions-requires
+    check-settings-requires
     is-indexed-requires
     check-palette-requires
     check-modes-requires
@@ -86,4 +107,5 @@ checks-spec =
     or-requires-2
     or-requires-3
     or-requires-4
+    or-requires-5
     returns)

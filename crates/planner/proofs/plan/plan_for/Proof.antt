@@ -3,7 +3,6 @@ use Prim.Native.Nat.{_*_}
 use native.Mathlib.Omega.{arith}
 use Rattle.format.proofs.Acceptance.{checks-passed}
 use Rattle.planner.proofs.PlanLaws.{raw-fits, raw-is, stream-planned, plan-stops, plan-sizes}
-use Rattle.format.specs.File.{maxFile}
 use borrow.Author.Needs.{needs}
 use Rattle.planner.proofs.plan.plan_for.Statement.{statement}
 use Rattle.planner.proofs.plan.plan_for.Tie as tie
@@ -18,7 +17,7 @@ returns : tie.Need-returns
 returns c =
     let a = c .before .before .before .before .args in
     let t = c .before .check .given in
-    plan-stops maxFile (a .src) (a .options) (a .plane-bytes) (a .palette-bytes) (a .profile-bytes) (c .before .before .before .checks .result) (t .0 .0) (c .before .before .before .checks .ensures) (t .1)
+    plan-stops (a .src) (a .options) (a .plane-bytes) (a .palette-bytes) (a .profile-bytes) (c .before .before .before .checks .result) (t .0 .0) (c .before .before .before .checks .ensures) (t .1)
 
 enum-told : tie.Need-enum-told
 enum-told c = search needs
@@ -54,7 +53,7 @@ sizes-for-requires c κs =
     let passed = sym (c .before .before .before .before .before .before .checks .ensures) ∙ c .before .before .before .before .enum-told .given .1 in
     let k = checks-passed (a .src) (a .options) (a .plane-bytes) (a .palette-bytes) passed in
     let l = c .before .before .before .layout-of in (
-      omega arith,
+      k .limited,
       (
         c .before .before .head-len .ensures .1,
         (
@@ -70,7 +69,7 @@ returns-2 c =
     let a = s .args in
     let passed = sym (c .before .before .before .before .before .before .before .checks .ensures) ∙ c .before .before .before .before .before .enum-told .given .1 in
     let l = c .before .before .before .before .layout-of in
-    plan-sizes maxFile (a .src) (a .options) (a .plane-bytes) (a .palette-bytes) (a .profile-bytes) (c .before .before .before .head-len .result) (c .before .before .row-stride .result * a .src .height) (l .result) (c .sizes-for .result) passed
+    plan-sizes (a .src) (a .options) (a .plane-bytes) (a .palette-bytes) (a .profile-bytes) (c .before .before .before .head-len .result) (c .before .before .row-stride .result * a .src .height) (l .result) (c .sizes-for .result) passed
     (l .ensures) (c .before .before .before .head-len .ensures .0) (raw-is (a .src) (a .options) (a .palette-bytes) (c .before .before .row-stride .result) (l .result) (l .ensures) (c .before .before .row-stride .ensures)) (c .sizes-for .ensures)
 
 pub plan-for-spec : {M : Type 1} → statement M
