@@ -11,7 +11,7 @@ use Rattle.leaves.specs.declared.options.EncodeOptions.{EncodeOptions}
 use Rattle.leaves.specs.Formats.{formatNumber}
 use Rattle.leaves.specs.Refusals.{firstOf, firstNumber}
 use Rattle.format.specs.Demand.{Demand3}
-use Rattle.format.specs.File.{maxFile}
+use Rattle.format.specs.File.{limitIn}
 use Rattle.format.specs.Input.{Input}
 use Rattle.format.specs.Refusals.{planRows, writeRows}
 use Rattle.planner.specs.declared.encoder.Encoded.{Encoded}
@@ -22,6 +22,7 @@ use Rattle.planner.specs.Answers.{bytesFor, formatFor, laterFor, boundFor, Writ
 use Rattle.planner.specs.Calls.{called}
 use Rattle.capi.specs.declared.BmpAnswer.{BmpAnswer}
 use Rattle.capi.specs.declared.BmpOptions.{BmpOptions}
+use Rattle.capi.specs.declared.BmpSettings.{BmpSettings}
 use Rattle.capi.specs.declared.BmpSource.{BmpSource}
 use Rattle.capi.specs.declared.SourceFormat.{SourceFormat}
 use Rattle.capi.specs.declared.SourceFormat.the-variants.{Known, Unknown}
@@ -35,10 +36,10 @@ formatsNumber (f ∷ fs) = formatNumber f
 
 abbrev EncodedNumbers : Input → ℕ → List ℕ → List ℕ → BmpAnswer → Type 0
 EncodedNumbers i offset was later a =
-    (a .refusal ≡ firstNumber (writeRows maxFile i (length was) offset))
-    × (a .bytes ≡ bytesFor (firstOf (writeRows maxFile i (length was) offset)) i)
-    × (a .format ≡ formatsNumber (formatFor (firstOf (writeRows maxFile i (length was) offset)) i))
-    × (later ≡ laterFor (firstOf (writeRows maxFile i (length was) offset)) i offset was)
+    (a .refusal ≡ firstNumber (writeRows (limitIn i) i (length was) offset))
+    × (a .bytes ≡ bytesFor (firstOf (writeRows (limitIn i) i (length was) offset)) i)
+    × (a .format ≡ formatsNumber (formatFor (firstOf (writeRows (limitIn i) i (length was) offset)) i))
+    × (later ≡ laterFor (firstOf (writeRows (limitIn i) i (length was) offset)) i offset was)
     × (a .refusal ≡ 0 → Demand3 i (take (a .bytes) (drop offset later)))
 
 encoded-numbers : (i : Input) (offset : ℕ) (was later : List ℕ) (r : Encoded) → Written i offset was later r → EncodedNumbers i offset was later (encodedAnswer r)
@@ -50,7 +51,7 @@ encodes-numbers i offset was later a e = subst (EncodedNumbers i offset was late
 
 -- and of the size query
 abbrev BoundNumbers : Input → BmpAnswer → Type 0
-BoundNumbers i a = (a .refusal ≡ firstNumber (planRows maxFile i)) × (a .bytes ≡ boundFor (firstOf (planRows maxFile i)) i) × (a .format ≡ 0)
+BoundNumbers i a = (a .refusal ≡ firstNumber (planRows (limitIn i) i)) × (a .bytes ≡ boundFor (firstOf (planRows (limitIn i) i)) i) × (a .format ≡ 0)
 
 bound-numbers : (i : Input) (r : SizeBound) → Sized i r → BoundNumbers i (boundAnswer r)
 bound-numbers i (sized.Bytes bytes) s = (s .number, s .bytes, refl)
@@ -60,29 +61,29 @@ pub bounds-numbers : (i : Input) (a : BmpAnswer) → Bounds i a → BoundNumbers
 bounds-numbers i a b = subst (BoundNumbers i) (sym (b .answer)) (bound-numbers i (b .writer) (b .promise))
 
 -- a format that is listed
-module _ (l : SourceFormat) (f : BmpPixelFormat) (source : BmpSource) (options : BmpOptions) (plane palette icc linked : List ℕ) (src : EncodeSource) (chosen : EncodeOptions)
-    (known : Known f ≡ l) (es : src ≡ sourceOf source f) (eo : chosen ≡ optionsOf options) where
+module _ (l : SourceFormat) (f : BmpPixelFormat) (source : BmpSource) (options : BmpOptions) (settings : BmpSettings) (plane palette icc linked : List ℕ) (src : EncodeSource) (chosen : EncodeOptions)
+    (known : Known f ≡ l) (es : src ≡ sourceOf source f) (eo : chosen ≡ optionsOf options settings) where
   pub encode-known : (offset : ℕ) (was later : List ℕ) (r : Encoded) (a : BmpAnswer) → Written (called src chosen plane palette icc linked) offset was later r
-      → a ≡ encodedAnswer r → EncodePromise l source options plane palette icc linked offset was later a
+      → a ≡ encodedAnswer r → EncodePromise l source options settings plane palette icc linked offset was later a
   encode-known offset was later r a w e =
-      subst (λ (k : SourceFormat). EncodePromise k source options plane palette icc linked offset was later a) known
+      subst (λ (k : SourceFormat). EncodePromise k source options settings plane palette icc linked offset was later a) known
       (record { writer = r; promise = subst (λ (i : Input). Written i offset was later r) (λ z. called (es z) (eo z) plane palette icc linked) w; answer = e })
 
   pub bound-known : (r : SizeBound) (a : BmpAnswer) → Sized (called src chosen plane palette icc linked) r → a ≡ boundAnswer r
-      → BoundPromise l source options plane palette icc linked a
+      → BoundPromise l source options settings plane palette icc linked a
   bound-known r a s e =
-      subst (λ (k : SourceFormat). BoundPromise k source options plane palette icc linked a) known
+      subst (λ (k : SourceFormat). BoundPromise k source options settings plane palette icc linked a) known
       (record { writer = r; promise = subst (λ (i : Input). Sized i r) (λ z. called (es z) (eo z) plane palette icc linked) s; answer = e })
 
 -- and one that is not
-pub encode-unknown : (l : SourceFormat) (source : BmpSource) (options : BmpOptions) (plane palette icc linked : List ℕ) (offset : ℕ) (was : List ℕ) → Unknown ≡ l
-    → EncodePromise l source options plane palette icc linked offset was was unknownFormat
-encode-unknown l source options plane palette icc linked offset was e =
-    subst (λ (k : SourceFormat). EncodePromise k source options plane palette icc linked offset was was unknownFormat) e (refl, refl)
+pub encode-unknown : (l : SourceFormat) (source : BmpSource) (options : BmpOptions) (settings : BmpSettings) (plane palette icc linked : List ℕ) (offset : ℕ) (was : List ℕ) → Unknown ≡ l
+    → EncodePromise l source options settings plane palette icc linked offset was was unknownFormat
+encode-unknown l source options settings plane palette icc linked offset was e =
+    subst (λ (k : SourceFormat). EncodePromise k source options settings plane palette icc linked offset was was unknownFormat) e (refl, refl)
 
-pub bound-unknown : (l : SourceFormat) (source : BmpSource) (options : BmpOptions) (plane palette icc linked : List ℕ) → Unknown ≡ l
-    → BoundPromise l source options plane palette icc linked unknownFormat
-bound-unknown l source options plane palette icc linked e = subst (λ (k : SourceFormat). BoundPromise k source options plane palette icc linked unknownFormat) e refl
+pub bound-unknown : (l : SourceFormat) (source : BmpSource) (options : BmpOptions) (settings : BmpSettings) (plane palette icc linked : List ℕ) → Unknown ≡ l
+    → BoundPromise l source options settings plane palette icc linked unknownFormat
+bound-unknown l source options settings plane palette icc linked e = subst (λ (k : SourceFormat). BoundPromise k source options settings plane palette icc linked unknownFormat) e refl
 
 -- numbers past the list
 pub format-past : (n : ℕ) → 10 ≤ n → Unknown ≡ formatAt n

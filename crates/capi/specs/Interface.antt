@@ -2,6 +2,7 @@
 use Prim.Native.Nat.{ℕ}
 use mathlib.Core.Path.{_≡_}
 use mathlib.Core.List.{List, [], _∷_}
+use lib.IntN.{pos}
 use lib.ListN.{getD}
 use Rattle.leaves.specs.declared.encoder.EncodeSource.{EncodeSource}
 use Rattle.leaves.specs.declared.image.BmpPixelFormat.{BmpPixelFormat}
@@ -20,6 +21,7 @@ use Rattle.capi.specs.declared.SourceFormat.{SourceFormat}
 use Rattle.capi.specs.declared.SourceFormat.the-variants.{Known, Unknown}
 use Rattle.capi.specs.declared.BmpSource.{BmpSource}
 use Rattle.capi.specs.declared.BmpOptions.{BmpOptions}
+use Rattle.capi.specs.declared.BmpSettings.{BmpSettings}
 use Rattle.capi.specs.declared.BmpAnswer.{BmpAnswer}
 
 -- the formats that a caller names, 0 to 9; any other number is none
@@ -52,8 +54,12 @@ sourceOf s format =
       «has_linked_icc» = s .«has_linked_icc»;
     }
 
-abbrev pub optionsOf : BmpOptions → EncodeOptions
-optionsOf o =
+-- document 02, A.5: "defaults are today's numbers"
+abbrev pub defaultSettings : BmpSettings
+defaultSettings = record { limit = 4294967295; «x_pels_per_meter» = pos 2835; «y_pels_per_meter» = pos 2835 }
+
+abbrev pub optionsOf : BmpOptions → BmpSettings → EncodeOptions
+optionsOf o s =
     record {
       «top_down» = o .«top_down»;
       «minimal_palette» = o .«minimal_palette»;
@@ -64,6 +70,9 @@ optionsOf o =
       «rendering_intent» = o .«rendering_intent»;
       «has_calibrated_rgb» = o .«has_calibrated»;
       «calibrated_rgb» = record { endpoints = o .endpoints; gamma = o .gamma };
+      limit = s .limit;
+      «x_pels_per_meter» = s .«x_pels_per_meter»;
+      «y_pels_per_meter» = s .«y_pels_per_meter»;
     }
 
 -- the writer's answers as numbers
@@ -91,11 +100,11 @@ pub record Bounds (i : Input) (numbers : BmpAnswer) : Type 0 where
   pub answer : numbers ≡ boundAnswer writer
 
 -- the promises: 255 before all else, and nothing changed
-abbrev pub EncodePromise : SourceFormat → BmpSource → BmpOptions → List ℕ → List ℕ → List ℕ → List ℕ → ℕ → List ℕ → List ℕ → BmpAnswer → Type 0
-EncodePromise (Known f) source options plane palette icc linked offset was later answer =
-    Encodes (called (sourceOf source f) (optionsOf options) plane palette icc linked) offset was later answer
-EncodePromise Unknown source options plane palette icc linked offset was later answer = (answer ≡ unknownFormat) × (later ≡ was)
+abbrev pub EncodePromise : SourceFormat → BmpSource → BmpOptions → BmpSettings → List ℕ → List ℕ → List ℕ → List ℕ → ℕ → List ℕ → List ℕ → BmpAnswer → Type 0
+EncodePromise (Known f) source options settings plane palette icc linked offset was later answer =
+    Encodes (called (sourceOf source f) (optionsOf options settings) plane palette icc linked) offset was later answer
+EncodePromise Unknown source options settings plane palette icc linked offset was later answer = (answer ≡ unknownFormat) × (later ≡ was)
 
-abbrev pub BoundPromise : SourceFormat → BmpSource → BmpOptions → List ℕ → List ℕ → List ℕ → List ℕ → BmpAnswer → Type 0
-BoundPromise (Known f) source options plane palette icc linked answer = Bounds (called (sourceOf source f) (optionsOf options) plane palette icc linked) answer
-BoundPromise Unknown source options plane palette icc linked answer = answer ≡ unknownFormat
+abbrev pub BoundPromise : SourceFormat → BmpSource → BmpOptions → BmpSettings → List ℕ → List ℕ → List ℕ → List ℕ → BmpAnswer → Type 0
+BoundPromise (Known f) source options settings plane palette icc linked answer = Bounds (called (sourceOf source f) (optionsOf options settings) plane palette icc linked) answer
+BoundPromise Unknown source options settings plane palette icc linked answer = answer ≡ unknownFormat

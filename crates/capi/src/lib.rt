@@ -6,7 +6,7 @@ ghost use Rattle.leaves.specs.Masks.{bitfieldsRows};
 ghost use Rattle.leaves.specs.Refusals.{firstNumber};
 ghost use Rattle.reader.specs.Refusals.{firstApplying, openRows};
 ghost use Rattle.reader.specs.Answers.{sizesFor};
-ghost use Rattle.capi.specs.Interface.{formatAt, sourceOf, optionsOf, encodedAnswer, boundAnswer, EncodePromise, BoundPromise};
+ghost use Rattle.capi.specs.Interface.{formatAt, defaultSettings, sourceOf, optionsOf, encodedAnswer, boundAnswer, EncodePromise, BoundPromise};
 ghost use Rattle.capi.specs.Reading.{readingAnswer, sizesAnswer, ReadPromise};
 use leaves::bitfields::BmpBitfields;
 use leaves::bitfields::validate;
@@ -14,6 +14,8 @@ use leaves::encoder::EncodeSource;
 use leaves::image::BmpPixelFormat;
 use leaves::options::CalibratedRgb;
 use leaves::options::EncodeOptions;
+use leaves::types::MAX_FILE;
+use leaves::types::PELS_PER_METER;
 use planner::encoder::Encoded;
 use planner::encoder::encode_into;
 use planner::plan::SizeBound;
@@ -38,6 +40,16 @@ pub struct BmpOptions {
     pub rendering_intent: u32,
     pub endpoints: [i32; 9],
     pub gamma: [u32; 3],
+}
+
+// 16 bytes.
+#[repr(C)]
+pub struct BmpSettings {
+    // Bytes that a file may have.
+    pub limit: u64,
+    // Pixels a metre.
+    pub x_pels_per_meter: i32,
+    pub y_pels_per_meter: i32,
 }
 
 // 24 bytes.
@@ -102,8 +114,8 @@ fn source_of(source: BmpSource, format: BmpPixelFormat) -> EncodeSource
     }
 }
 
-fn options_of(options: BmpOptions) -> EncodeOptions
-    ensures { λ r. ⌜ r ≡ optionsOf options ⌝ }
+fn options_of(options: BmpOptions, settings: BmpSettings) -> EncodeOptions
+    ensures { λ r. ⌜ r ≡ optionsOf options settings ⌝ }
 {
     let masks = options.bitfields_masks;
     let bitfields = BmpBitfields {
@@ -123,6 +135,20 @@ fn options_of(options: BmpOptions) -> EncodeOptions
         rendering_intent: options.rendering_intent,
         has_calibrated_rgb: options.has_calibrated,
         calibrated_rgb,
+        limit: settings.limit,
+        x_pels_per_meter: settings.x_pels_per_meter,
+        y_pels_per_meter: settings.y_pels_per_meter,
+    }
+}
+
+// The settings of a call that names none.
+fn default_settings() -> BmpSettings
+    ensures { λ r. ⌜ r ≡ defaultSettings ⌝ }
+{
+    BmpSettings {
+        limit: MAX_FILE,
+        x_pels_per_meter: PELS_PER_METER,
+        y_pels_per_meter: PELS_PER_METER,
     }
 }
 
@@ -161,7 +187,36 @@ fn bound_answer(answer: SizeBound) -> BmpAnswer
     }
 }
 
-// Appends the file at the offset of `out`, or changes nothing and says why.
+// Appends the file at the offset of `out`, within the settings' limit, or changes nothing and says why.
+#[no_mangle]
+pub extern "C" fn bmp_encode_into_with<'a>(
+    source: BmpSource,
+    options: BmpOptions,
+    settings: BmpSettings,
+    plane: &[u8],
+    palette: &[u8],
+    icc: &'a [u8],
+    linked_icc: &'a [u8],
+    out: &mut [u8],
+    offset: usize,
+) -> BmpAnswer
+    ensures { λ r. ⌜ EncodePromise (formatAt (source .format)) source options settings (now (plane .entry)) (now (palette .entry)) (now (icc .entry)) (now («linked_icc» .entry)) offset (now (out .entry)) (now (out .exit)) r ⌝ }
+{
+    let named = format_at(source.format);
+    let SourceFormat::Known(format) = named else {
+        return BmpAnswer {
+            bytes: 0,
+            refusal: 255,
+            format: 0,
+        };
+    };
+    let src = source_of(source, format);
+    let chosen = options_of(options, settings);
+    let answer = encode_into(src, chosen, plane, palette, icc, linked_icc, out, offset);
+    encode_answer(answer)
+}
+
+// The same with the default settings.
 #[no_mangle]
 pub extern "C" fn bmp_encode_into<'a>(
     source: BmpSource,
@@ -173,7 +228,34 @@ pub extern "C" fn bmp_encode_into<'a>(
     out: &mut [u8],
     offset: usize,
 ) -> BmpAnswer
-    ensures { λ r. ⌜ EncodePromise (formatAt (source .format)) source options (now (plane .entry)) (now (palette .entry)) (now (icc .entry)) (now («linked_icc» .entry)) offset (now (out .entry)) (now (out .exit)) r ⌝ }
+    ensures { λ r. ⌜ EncodePromise (formatAt (source .format)) source options defaultSettings (now (plane .entry)) (now (palette .entry)) (now (icc .entry)) (now («linked_icc» .entry)) offset (now (out .entry)) (now (out .exit)) r ⌝ }
+{
+    let settings = default_settings();
+    bmp_encode_into_with(
+        source,
+        options,
+        settings,
+        plane,
+        palette,
+        icc,
+        linked_icc,
+        out,
+        offset,
+    )
+}
+
+// How many bytes `bmp_encode_into_with` asks for.
+#[no_mangle]
+pub extern "C" fn bmp_encoded_size_bound_with<'a>(
+    source: BmpSource,
+    options: BmpOptions,
+    settings: BmpSettings,
+    plane: &[u8],
+    palette: &[u8],
+    icc: &'a [u8],
+    linked_icc: &'a [u8],
+) -> BmpAnswer
+    ensures { λ r. ⌜ BoundPromise (formatAt (source .format)) source options settings (now (plane .entry)) (now (palette .entry)) (now (icc .entry)) (now («linked_icc» .entry)) r ⌝ }
 {
     let named = format_at(source.format);
     let SourceFormat::Known(format) = named else {
@@ -184,12 +266,12 @@ pub extern "C" fn bmp_encode_into<'a>(
         };
     };
     let src = source_of(source, format);
-    let chosen = options_of(options);
-    let answer = encode_into(src, chosen, plane, palette, icc, linked_icc, out, offset);
-    encode_answer(answer)
+    let chosen = options_of(options, settings);
+    let answer = encoded_size_bound(src, chosen, plane, palette, icc, linked_icc);
+    bound_answer(answer)
 }
 
-// How many bytes `bmp_encode_into` asks for.
+// The same with the default settings.
 #[no_mangle]
 pub extern "C" fn bmp_encoded_size_bound<'a>(
     source: BmpSource,
@@ -199,20 +281,10 @@ pub extern "C" fn bmp_encoded_size_bound<'a>(
     icc: &'a [u8],
     linked_icc: &'a [u8],
 ) -> BmpAnswer
-    ensures { λ r. ⌜ BoundPromise (formatAt (source .format)) source options (now (plane .entry)) (now (palette .entry)) (now (icc .entry)) (now («linked_icc» .entry)) r ⌝ }
+    ensures { λ r. ⌜ BoundPromise (formatAt (source .format)) source options defaultSettings (now (plane .entry)) (now (palette .entry)) (now (icc .entry)) (now («linked_icc» .entry)) r ⌝ }
 {
-    let named = format_at(source.format);
-    let SourceFormat::Known(format) = named else {
-        return BmpAnswer {
-            bytes: 0,
-            refusal: 255,
-            format: 0,
-        };
-    };
-    let src = source_of(source, format);
-    let chosen = options_of(options);
-    let answer = encoded_size_bound(src, chosen, plane, palette, icc, linked_icc);
-    bound_answer(answer)
+    let settings = default_settings();
+    bmp_encoded_size_bound_with(source, options, settings, plane, palette, icc, linked_icc)
 }
 
 // 0, or 6 to 10.

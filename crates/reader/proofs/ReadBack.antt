@@ -15,12 +15,12 @@ use Rattle.leaves.specs.declared.error.Refusal.the-variants.{MaskSource, FileTo
 use Rattle.leaves.specs.Formats.{bytesPerPixel, bitsPerPixel, isIndexed, maskSource}
 use Rattle.leaves.specs.Masks.{bitfieldsRows}
 use Rattle.leaves.specs.Put.{put}
-use Rattle.leaves.specs.Refusals.{firstOf, profileMode, dimensionRows, paletteRows, modeRows, planeRows}
+use Rattle.leaves.specs.Refusals.{firstOf, profileMode, dimensionRows, settingsRows, paletteRows, modeRows, planeRows}
 use Rattle.leaves.specs.Sizes.{rowStride}
 use Rattle.format.specs.Accepted.{Accepted}
 use Rattle.format.specs.Decode.{Decoded, filled, refused, decode}
 use Rattle.format.specs.Expectation.{expected}
-use Rattle.format.specs.File.{modeIn, depthIn, rawBytes, entriesOf, headBytes, tailOf, maxFile, streamUsed, pixels, colourTable, compressionOf, fileSize, fileOf}
+use Rattle.format.specs.File.{modeIn, depthIn, rawBytes, entriesOf, headBytes, tailOf, limitIn, streamUsed, pixels, colourTable, compressionOf, fileSize, fileOf}
 use Rattle.format.specs.Input.{Input}
 use Rattle.format.specs.Layout.{rowsCompression, headRest, headerSize, rawLen}
 use Rattle.format.specs.Readers.{Fields, fieldsOf, newer, Reading, shows, refuses, shownHeight, tableCount, rowLength, headNeeds, streamed, body, read}
@@ -80,7 +80,7 @@ pub record Call (i : Input) : Type 0 where
   pub linked-bytes : (k : ℕ) → getD (i .linked) k 0 < 256
   pub nine-endpoints : length (i .options .«calibrated_rgb» .endpoints) ≡ 9
   pub three-gammas : length (i .options .«calibrated_rgb» .gamma) ≡ 3
-  pub passes : firstOf (writeRows maxFile i room offset) ≡ Passed
+  pub passes : firstOf (writeRows (limitIn i) i room offset) ≡ Passed
 
 pub call-accepted : (i : Input) → Call i → Accepted i
 call-accepted i c = accepted i (c .room) (c .offset) (c .plane-bytes) (c .palette-bytes) (c .nine-endpoints) (c .three-gammas) (c .passes)
@@ -89,16 +89,17 @@ call-accepted i c = accepted i (c .room) (c .offset) (c .plane-bytes) (c .palett
 masks-pass : (i : Input) → Call i → i .options .«has_bitfields» ≡ true → firstOf (bitfieldsRows (i .options .bitfields .bpp) (i .options .bitfields .masks)) ≡ Passed
 unfolding writeRows planRows checkRows givenMasksRows
 masks-pass i c m =
-    let plan = first-parts (planRows maxFile i) ((bufferTooShort maxFile i (c .room) (c .offset), BufferTooShort) ∷ (streamOverBudget maxFile i, StreamOverBudget) ∷ []) (c .passes) .0 in
-    let call = first-parts (callRows i) ((fileTooLarge maxFile i, FileTooLarge) ∷ []) plan .0 in
+    let plan = first-parts (planRows (limitIn i) i) ((bufferTooShort (limitIn i) i (c .room) (c .offset), BufferTooShort) ∷ (streamOverBudget (limitIn i) i, StreamOverBudget) ∷ []) (c .passes) .0 in
+    let call = first-parts (callRows i) ((fileTooLarge (limitIn i) i, FileTooLarge) ∷ []) plan .0 in
     let s = i .source in
     let o = i .options in
     let size = dimensionRows (s .width) (s .height) in
+    let settings = settingsRows (o .limit) (o .«x_pels_per_meter») (o .«y_pels_per_meter») in
     let colours = paletteRows (isIndexed (s .format)) (s .«has_palette») (length (i .palette)) in
     let modes = modeRows (o .«has_bitfields») (o .«has_calibrated_rgb») (profileMode (s .«has_linked_icc») (s .«has_icc») (o .«embed_icc»)) in
     let plane = planeRows (s .width) (s .height) (s .stride) (bytesPerPixel (s .format)) (length (i .plane)) in
-    let upto = first-parts (size ++ colours ++ modes ++ givenMasksRows s o) plane call .0 in
-    let given = first-parts (size ++ colours ++ modes) (givenMasksRows s o) upto .1 in
+    let upto = first-parts (size ++ settings ++ colours ++ modes ++ givenMasksRows s o) plane call .0 in
+    let given = first-parts (size ++ settings ++ colours ++ modes) (givenMasksRows s o) upto .1 in
     first-parts (bitfieldsRows (o .bitfields .bpp) (o .bitfields .masks)) ((maskSource (s .format), MaskSource) ∷ [])
     (subst (λ (b : Bool). firstOf (cond b (bitfieldsRows (o .bitfields .bpp) (o .bitfields .masks) ++ ((maskSource (s .format), MaskSource) ∷ [])) []) ≡ Passed) m given) .0
 
@@ -109,9 +110,9 @@ decoded file t (filled cells taken) s e = refl
 decoded file t (refused cause) s e = let z : _≡_ {A = ℕ} 0 1 = cc in absurd (omega arith)
 
 -- a compression that is no stream's
-unstreamed : (i : Input) → isCoded (compressionOf maxFile i) ≡ false → streamUsed maxFile i ≡ false
+unstreamed : (i : Input) → isCoded (compressionOf (limitIn i) i) ≡ false → streamUsed (limitIn i) i ≡ false
 unfolding compressionOf
-unstreamed i e = go (streamUsed maxFile i) e
+unstreamed i e = go (streamUsed (limitIn i) i) e
   where
     go : (b : Bool) → isCoded (cond b (cond (eqb (bitsPerPixel (i .source .format)) 8) 1 2) (rowsCompression (i .source) (i .options))) ≡ false → b ≡ false
     go true q = absurd (true≢false (sym (one (eqb (bitsPerPixel (i .source .format)) 8)) ∙ q))
@@ -127,7 +128,7 @@ raw-is i = ap (λ (n : ℕ). i .source .height * n) (length-row (depthIn i) (i .
 
 module _ (i : Input) (call : Call i) where
   abbrev file : List ℕ
-  file = fileOf maxFile i
+  file = fileOf (limitIn i) i
 
   a : Accepted i
   a = call-accepted i call
@@ -201,18 +202,18 @@ module _ (i : Input) (call : Call i) where
   count-is : tableCount (fieldsOf file) ≡ entriesOf i
   count-is = count-read i a
 
-  table-here : 0 < entriesOf i → drop (numbers.headBytes (fieldsOf file)) file ≡ colourTable i ++ (pixels maxFile i ++ tailOf i)
+  table-here : 0 < entriesOf i → drop (numbers.headBytes (fieldsOf file)) file ≡ colourTable i ++ (pixels (limitIn i) i ++ tailOf i)
   table-here h =
-      let first = firstPart i (fileSize maxFile i) in
+      let first = firstPart i (fileSize (limitIn i) i) in
       let n : ℕ = length (headRest (modeIn i) (i .source) (i .options) 0 0) in
       let size : fieldsOf file .headerSize ≡ headerSize (modeIn i) (i .source .format) = ap (λ (t : Fields). t .headerSize) (fields-read i a) in
       let fills = header-fills (i .source) (i .options) (a .nine-endpoints) (a .three-gammas) (modeIn i) (entry-plain i a 0 h) in
       let place : numbers.headBytes (fieldsOf file) ≡ 54 + n = omega (arith, size, fills) in
-      let more = colourTable i ++ (pixels maxFile i ++ tailOf i) in
+      let more = colourTable i ++ (pixels (limitIn i) i ++ tailOf i) in
       ap (λ (k : ℕ). drop k file) place
       ∙ ap (drop (54 + n)) (file-parts i)
       ∙ sym (drop-drop n 54 (first ++ (restPart i ++ more)))
-      ∙ ap (drop n) (drop-at first (restPart i ++ more) 54 (first-length i (fileSize maxFile i)))
+      ∙ ap (drop n) (drop-at first (restPart i ++ more) 54 (first-length i (fileSize (limitIn i) i)))
       ∙ drop-at (restPart i) more n (rest-length (modeIn i) (i .source) (i .options) (length (tailOf i)) (headBytes i - 14 + rawBytes i))
 
   pub table-read : tableIn file ≡ colourTable i
@@ -228,7 +229,7 @@ module _ (i : Input) (call : Call i) where
           let z = eqb-false (entriesOf i) 0 e in
           let some : 0 < entriesOf i = omega (arith, z) in
           let k : tableBytes (fieldsOf file) ≡ length (colourTable i) = omega (arith, count-is, table-length i) in
-          rw (k, table-here some) (take-at (colourTable i) (pixels maxFile i ++ tailOf i) (length (colourTable i)) refl)
+          rw (k, table-here some) (take-at (colourTable i) (pixels (limitIn i) i ++ tailOf i) (length (colourTable i)) refl)
 
   -- ---- the theorem
 

@@ -21,7 +21,7 @@ use Rattle.leaves.specs.Sizes.{hasTable, paletteEntryCount, clrUsed}
 use Rattle.format.specs.declared.layout.Mode.{Mode}
 use Rattle.format.specs.declared.layout.Mode.the-variants.{Masked, Calibrated, Profiled, Plain}
 use Rattle.format.specs.Accepted.{Accepted}
-use Rattle.format.specs.File.{modeIn, depthIn, entriesOf, maxFile, streamUsed, storedHeight, compressionOf, fileSize, fileOf}
+use Rattle.format.specs.File.{modeIn, depthIn, entriesOf, limitIn, streamUsed, storedHeight, compressionOf, fileSize, fileOf}
 use Rattle.format.specs.Headers.{fileHeader, infoHeader}
 use Rattle.format.specs.Input.{Input}
 use Rattle.format.specs.Layout.{depthOf, headerSize, rowsCompression, coded}
@@ -46,8 +46,8 @@ mark-first : (n off hs w h d c im x y used : ℕ) (rest : List ℕ) → wordAt (
 unfolding fileHeader infoHeader le16 le32 wordAt
 mark-first n off hs w h d c im x y used rest = refl
 
-pub mark-read : (i : Input) → wordAt (fileOf maxFile i) 0 ≡ 0x4D42
-mark-read i = rw (file-parts i) (mark-first (fileSize maxFile i) _ _ _ _ _ _ _ _ _ _ (restPart i ++ _))
+pub mark-read : (i : Input) → wordAt (fileOf (limitIn i) i) 0 ≡ 0x4D42
+mark-read i = rw (file-parts i) (mark-first (fileSize (limitIn i) i) _ _ _ _ _ _ _ _ _ _ (restPart i ++ _))
 
 -- the header's size
 header-written : (m : Mode) (f : BmpPixelFormat) → (eqb (headerSize m f) 40 || eqb (headerSize m f) 108 || eqb (headerSize m f) 124) ≡ true
@@ -96,9 +96,9 @@ data Kinds (c d : ℕ) (down : Bool) : Type 0 where
 coded-bits : (f : BmpPixelFormat) → coded f ≡ true → (bitsPerPixel f ≡ 8) ⊎ (bitsPerPixel f ≡ 4)
 coded-bits f e = coded-cases (λ f. (bitsPerPixel f ≡ 8) ⊎ (bitsPerPixel f ≡ 4)) (inl refl) (inr refl) f e
 
-kinds : (i : Input) → Accepted i → Kinds (compressionOf maxFile i) (depthIn i) (i .options .«top_down»)
+kinds : (i : Input) → Accepted i → Kinds (compressionOf (limitIn i) i) (depthIn i) (i .options .«top_down»)
 unfolding compressionOf depthOf rowsCompression
-kinds i a = go (streamUsed maxFile i) refl (i .options .«has_bitfields») refl
+kinds i a = go (streamUsed (limitIn i) i) refl (i .options .«has_bitfields») refl
   where
     Answer : Bool → Bool → Type 0
     Answer s m =
@@ -129,8 +129,8 @@ kinds i a = go (streamUsed maxFile i) refl (i .options .«has_bitfields») refl
     rows Indexed2 q = plain refl refl
     rows Indexed1 q = plain refl refl
 
-    go : (s : Bool) → streamUsed maxFile i ≡ s → (m : Bool) → i .options .«has_bitfields» ≡ m → Answer s m
-    go true e m q = stream m q (used-in maxFile i e .planned)
+    go : (s : Bool) → streamUsed (limitIn i) i ≡ s → (m : Bool) → i .options .«has_bitfields» ≡ m → Answer s m
+    go true e m q = stream m q (used-in (limitIn i) i e .planned)
     go false e true q = masked (hasAlphaMask (i .options .bitfields .masks)) refl q
     go false e false q = rows (i .source .format) refl
 
@@ -215,7 +215,7 @@ four-565 file r = rw (r .red-mask, r .green-mask, r .blue-mask)
 
 module _ (i : Input) (a : Accepted i) (checks : i .options .«has_bitfields» ≡ true → firstOf (bitfieldsRows (i .options .bitfields .bpp) (i .options .bitfields .masks)) ≡ Passed) where
   abbrev file : List ℕ
-  file = fileOf maxFile i
+  file = fileOf (limitIn i) i
 
   masks-four : (c : ℕ) → i .options .«has_bitfields» ≡ true → c ≡ maskCompression (i .options .bitfields .masks)
       → masksOf file c ≡ getD (i .options .bitfields .masks) 0 0 ∷ getD (i .options .bitfields .masks) 1 0 ∷ getD (i .options .bitfields .masks) 2 0 ∷ getD (i .options .bitfields .masks) 3 0 ∷ []
@@ -229,9 +229,9 @@ module _ (i : Input) (a : Accepted i) (checks : i .options .«has_bitfields» �
       go true q = alpha-read i a m q
       go false q = no-alpha (i .options .bitfields .masks) q
 
-  masks-written : (eqb (compressionOf maxFile i) 3 || eqb (compressionOf maxFile i) 6) ≡ true → refusedMasks (depthIn i) (masksOf file (compressionOf maxFile i)) ≡ false
+  masks-written : (eqb (compressionOf (limitIn i) i) 3 || eqb (compressionOf (limitIn i) i) 6) ≡ true → refusedMasks (depthIn i) (masksOf file (compressionOf (limitIn i) i)) ≡ false
   unfolding compressionOf depthOf rowsCompression
-  masks-written = go (streamUsed maxFile i) refl (i .options .«has_bitfields») refl
+  masks-written = go (streamUsed (limitIn i) i) refl (i .options .«has_bitfields») refl
     where
       C : Bool → Bool → ℕ
       C s m = cond s (cond (eqb (bitsPerPixel (i .source .format)) 8) 1 2) (cond m (maskCompression (i .options .bitfields .masks)) (cond (isRgb565 (i .source .format)) 3 0))
@@ -255,7 +255,7 @@ module _ (i : Input) (a : Accepted i) (checks : i .options .«has_bitfields» �
       rows Indexed2 q e = absurd (false≢true e)
       rows Indexed1 q e = absurd (false≢true e)
 
-      go : (s : Bool) → streamUsed maxFile i ≡ s → (m : Bool) → i .options .«has_bitfields» ≡ m → (eqb (C s m) 3 || eqb (C s m) 6) ≡ true → refusedMasks (D m) (masksOf file (C s m)) ≡ false
+      go : (s : Bool) → streamUsed (limitIn i) i ≡ s → (m : Bool) → i .options .«has_bitfields» ≡ m → (eqb (C s m) 3 || eqb (C s m) 6) ≡ true → refusedMasks (D m) (masksOf file (C s m)) ≡ false
       go true p m q e = absurd (none (eqb (bitsPerPixel (i .source .format)) 8) e)
       go false p true q e =
           ap (refusedMasks (i .options .bitfields .bpp)) (masks-four (maskCompression (i .options .bitfields .masks)) q refl)
@@ -273,16 +273,16 @@ module _ (i : Input) (a : Accepted i) (checks : i .options .«has_bitfields» �
       let width : noWidth n (i .source .width) ≡ false = off 22 n _ (rw (ne-eqb (i .source .width) 0 (λ z. omega (arith, a .some-width)), lt-leb 2147483648 (i .source .width) (a .wide))) in
       let height : noHeight n (storedHeight i) ≡ false = off 26 n _ (height-some (i .options .«top_down») (i .source .height) (a .some-height) (a .tall)) in
       let depth : strangeDepth n (depthIn i) ≡ false = off 30 n _ (rw (kind-depth k)) in
-      let compression : strangeCompression n (compressionOf maxFile i) ≡ false = off 34 n _ (rw (kind-compression (compressionOf maxFile i) k)) in
-      let pair : strangePair n (compressionOf maxFile i) (depthIn i) ≡ false = off 34 n _ (rw (kind-pair (compressionOf maxFile i) (depthIn i) k)) in
-      let upright : negativeStream n (compressionOf maxFile i) (storedHeight i) ≡ false = kind-upright (compressionOf maxFile i) (i .source .height) n (a .tall) k in
+      let compression : strangeCompression n (compressionOf (limitIn i) i) ≡ false = off 34 n _ (rw (kind-compression (compressionOf (limitIn i) i) k)) in
+      let pair : strangePair n (compressionOf (limitIn i) i) (depthIn i) ≡ false = off 34 n _ (rw (kind-pair (compressionOf (limitIn i) i) (depthIn i) k)) in
+      let upright : negativeStream n (compressionOf (limitIn i) i) (storedHeight i) ≡ false = kind-upright (compressionOf (limitIn i) i) (i .source .height) n (a .tall) k in
       let colours : manyColours n (depthIn i) (clrUsed (depthIn i) (entriesOf i)) ≡ false = few-colours n (depthIn i) (entriesOf i) in
-      rw (fields-read i a, mark, header, width, height, depth, compression, pair, upright, colours) (masks (eqb (compressionOf maxFile i) 3 || eqb (compressionOf maxFile i) 6) refl)
+      rw (fields-read i a, mark, header, width, height, depth, compression, pair, upright, colours) (masks (eqb (compressionOf (limitIn i) i) 3 || eqb (compressionOf (limitIn i) i) 6) refl)
     where
-      masks : (b : Bool) → (eqb (compressionOf maxFile i) 3 || eqb (compressionOf maxFile i) 6) ≡ b
-          → (b && leb (masksEnd (compressionOf maxFile i)) (length file) && refusedMasks (depthIn i) (masksOf file (compressionOf maxFile i))) ≡ false
+      masks : (b : Bool) → (eqb (compressionOf (limitIn i) i) 3 || eqb (compressionOf (limitIn i) i) 6) ≡ b
+          → (b && leb (masksEnd (compressionOf (limitIn i) i)) (length file) && refusedMasks (depthIn i) (masksOf file (compressionOf (limitIn i) i))) ≡ false
       masks false e = refl
-      masks true e = go (leb (masksEnd (compressionOf maxFile i)) (length file)) (masks-written e)
+      masks true e = go (leb (masksEnd (compressionOf (limitIn i) i)) (length file)) (masks-written e)
         where
           go : (t : Bool) {r : Bool} → r ≡ false → (t && r) ≡ false
           go true q = q

@@ -15,7 +15,7 @@ use Rattle.leaves.specs.Formats.{isRgb565}
 use Rattle.format.specs.declared.layout.Mode.{Mode}
 use Rattle.format.specs.declared.layout.Mode.the-variants.{Masked, Calibrated, Profiled, Plain}
 use Rattle.format.specs.Accepted.{Accepted}
-use Rattle.format.specs.File.{modeIn, rawBytes, headBytes, tailOf, maxFile, streamUsed, storedRowsOf, pixels, fileSize, fileOf}
+use Rattle.format.specs.File.{modeIn, rawBytes, headBytes, tailOf, limitIn, streamUsed, storedRowsOf, pixels, fileSize, fileOf}
 use Rattle.format.specs.Headers.{dwords, v4Fields, v5Fields}
 use Rattle.format.specs.Input.{Input}
 use Rattle.format.specs.Layout.{isPlain, isProfiled, tailIn, headerSize, longMasks, headRest, headLen, wantsRle}
@@ -64,7 +64,7 @@ fields-at first a b c d space intent at size more e s p q =
 
 module _ (i : Input) (a : Accepted i) where
   abbrev file : List ℕ
-  file = fileOf maxFile i
+  file = fileOf (limitIn i) i
 
   abbrev place : ℕ
   place = headBytes i - 14 + rawBytes i
@@ -78,7 +78,7 @@ module _ (i : Input) (a : Accepted i) where
   size-field = ap (λ (t : Fields). t .headerSize) (fields-read i a)
 
   -- a file with a profile has stored rows
-  unstreamed : isProfiled (modeIn i) ≡ true → streamUsed maxFile i ≡ false
+  unstreamed : isProfiled (modeIn i) ≡ true → streamUsed (limitIn i) i ≡ false
   unfolding streamUsed wantsRle
   unstreamed e = rw (go (modeIn i) e)
     where
@@ -91,17 +91,17 @@ module _ (i : Input) (a : Accepted i) where
   raw-length : length (storedRowsOf i) ≡ rawBytes i
   raw-length = length-rows i (a .masks) (a .samples)
 
-  plain-pixels : streamUsed maxFile i ≡ false → length (pixels maxFile i) ≡ rawBytes i
+  plain-pixels : streamUsed (limitIn i) i ≡ false → length (pixels (limitIn i) i) ≡ rawBytes i
   unfolding pixels
   plain-pixels e = rw e raw-length
 
-  pub plain-size : streamUsed maxFile i ≡ false → headBytes i + rawBytes i + length (tailOf i) ≡ length file
+  pub plain-size : streamUsed (limitIn i) i ≡ false → headBytes i + rawBytes i + length (tailOf i) ≡ length file
   unfolding fileSize
   plain-size e = sym (length-file i ∙ rw (plain-pixels e))
 
-  small-size : headBytes i + length (pixels maxFile i) + length (tailOf i) ≤ 4294967295
+  small-size : headBytes i + length (pixels (limitIn i) i) + length (tailOf i) ≤ 4294967295
   unfolding fileSize
-  small-size = a .fits
+  small-size = omega (arith, a .fits, a .limited)
 
   profiled : modeIn i ≡ Profiled → ProfileFields file (cond (i .source .«has_linked_icc») 0x4C494E4B 0x4D424544) place (length (tailOf i))
   unfolding headRest
@@ -109,10 +109,10 @@ module _ (i : Input) (a : Accepted i) where
       let no-stream = plain-pixels (unstreamed (ap isProfiled m)) in
       let space : ℕ = cond (i .source .«has_linked_icc») 0x4C494E4B 0x4D424544 in
       let masks = longMasks (i .source .format) in
-      let first = firstPart i (fileSize maxFile i) in
+      let first = firstPart i (fileSize (limitIn i) i) in
       subst (λ (l : List ℕ). ProfileFields l space place (length (tailOf i)))
       (sym (mode-file i Profiled m ∙ ap (λ (l : List ℕ). first ++ ((v4Fields l space (replicate 9 0) (replicate 3 0) ++ v5Fields (i .options .«rendering_intent») place (length (tailOf i))) ++ afterRest i)) (long-four (i .source .format))))
-      (fields-at first (getD masks 0 0) (getD masks 1 0) (getD masks 2 0) (getD masks 3 0) space (i .options .«rendering_intent») place (length (tailOf i)) (afterRest i) (first-length i (fileSize maxFile i))
+      (fields-at first (getD masks 0 0) (getD masks 1 0) (getD masks 2 0) (getD masks 3 0) space (i .options .«rendering_intent») place (length (tailOf i)) (afterRest i) (first-length i (fileSize (limitIn i) i))
       (space-small (i .source .«has_linked_icc»)) (omega (arith, small-size, no-stream, head-some)) (omega (arith, small-size)))
     where
       space-small : (b : Bool) → cond b 0x4C494E4B 0x4D424544 < 4294967296
@@ -195,5 +195,5 @@ module _ (i : Input) (a : Accepted i) where
       go false e =
           let z = eqb-false (length (tailOf i)) 0 e in
           let l : drop (headBytes i + rawBytes i) file ≡ tailOf i
-          = sym (drop-drop (rawBytes i) (headBytes i) file) ∙ ap (drop (rawBytes i)) (pixels-at i) ∙ drop-at (pixels maxFile i) (tailOf i) (rawBytes i) (plain-pixels (unstreamed (some-tail z))) in
+          = sym (drop-drop (rawBytes i) (headBytes i) file) ∙ ap (drop (rawBytes i)) (pixels-at i) ∙ drop-at (pixels (limitIn i) i) (tailOf i) (rawBytes i) (plain-pixels (unstreamed (some-tail z))) in
           rw (bytes-read, at-read z, l) (take-all (length (tailOf i)) (tailOf i) (omega arith))
