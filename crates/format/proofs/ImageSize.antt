@@ -48,6 +48,11 @@ image-at : (limit : ℕ) (i : Input) (n x y : ℕ) → n < 4294967296 → dwordA
 unfolding dwordAt wordAt headOf fileHeader infoHeader le16 le32
 image-at limit i n x y h = dword-bytes n h
 
+-- eight bytes put at the two resolutions are other resolutions
+pub put-resolutions : (limit : ℕ) (i : Input) (n a b x y : ℕ) → put (put (fileWith limit i n a b) 38 (le32 x)) 42 (le32 y) ≡ fileWith limit i n x y
+unfolding put headOf fileHeader infoHeader le16 le32
+put-resolutions limit i n a b x y = refl
+
 -- bfOffBits is where the head ends, whatever follows it
 pub offset-at : (i : Input) (c n x y size : ℕ) (rest : List ℕ) → headBytes i < 4294967296 → dwordAt (headOf i c n x y size ++ rest) 10 ≡ headBytes i
 unfolding dwordAt wordAt headOf fileHeader infoHeader le16 le32

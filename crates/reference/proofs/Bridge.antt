@@ -15,15 +15,15 @@ use Rattle.leaves.specs.Formats.{bitsPerPixel, plainToken}
 use Rattle.leaves.specs.Masks.{hasAlphaMask}
 use Rattle.leaves.specs.Put.{put}
 use Rattle.format.specs.declared.layout.Mode.{Mode}
-use Rattle.format.specs.File.{modeIn, rawBytes, headBytes, tailOf, streamOf, streamUsed, storedRowsOf, pixels, compressionOf, imageSize, fileSize, fileOf, plainSize, formatOf}
+use Rattle.format.specs.File.{modeIn, rawBytes, headBytes, tailOf, streamOf, streamUsed, storedRowsOf, pixels, compressionOf, imageSize, xPelsIn, yPelsIn, fileSize, fileOf, plainSize, formatOf}
 use Rattle.format.specs.Input.{Input}
 use Rattle.format.specs.Layout.{isProfiled, headerSize, maskFormat, rowsCompression, rowsFormat}
 use Rattle.format.specs.Readers.{dwordAt}
 use Rattle.format.proofs.Acceptance.{Checked, rows-long}
-use Rattle.format.proofs.HeadFields.{length-head, length-with}
-use Rattle.format.proofs.ImageSize.{earlierSize, earlierFile, offset-at, stream-compression, mask-compression, other-size, planned-header, found-size, filled, same-size}
+use Rattle.format.proofs.HeadFields.{length-head, fileWith, length-with}
+use Rattle.format.proofs.ImageSize.{earlierSize, put-image, put-resolutions, offset-at, stream-compression, mask-compression, other-size, planned-header, found-size}
 use Rattle.format.proofs.Modes.{mask-mode, unprofiled-tail, tail-empty, used-in}
-use Rattle.reference.specs.Compared.{refittedWords, withWideChannels, isRleOrMasks, withImageSize, filledIn, agreed, Typed}
+use Rattle.reference.specs.Compared.{refittedWords, withWideChannels, isRleOrMasks, withImageSize, filledIn, withResolutions, agreed, Typed}
 use Rattle.reference.proofs.Original.{originalRows, originalHead, originalFile}
 use Rattle.reference.proofs.PlanSizes.{head-small}
 use Rattle.reference.proofs.WideChannels.{length-refitted}
@@ -66,12 +66,16 @@ module _ (i : Input) (ok : Typed i) (k : Checked i) where
   no-profile h = unprofiled-tail i (ap isProfiled (mask-mode i (masked i ok k h)))
 
   module _ (limit : ℕ) where
+    -- the document's file with what the original has in the fields that differ
+    abbrev ownFile : List ℕ
+    ownFile = fileWith limit i (earlierSize i) 2835 2835
+
     -- without a wide channel the original's own file has the document's rows
-    narrow-file : wideIn i ≡ false → originalFile limit i ≡ earlierFile limit i
-    unfolding originalFile earlierFile fileSize pixels compressionOf plainSize
+    narrow-file : wideIn i ≡ false → originalFile limit i ≡ ownFile
+    unfolding originalFile fileSize pixels compressionOf plainSize
     narrow-file h = go (streamUsed limit i) refl
       where
-        go : (b : Bool) → streamUsed limit i ≡ b → originalFile limit i ≡ earlierFile limit i
+        go : (b : Bool) → streamUsed limit i ≡ b → originalFile limit i ≡ ownFile
         go true e =
             let n : headBytes i + length (streamOf i) + 0 ≡ headBytes i + length (streamOf i) = omega arith in
             rw (e, tail-empty i (used-in limit i e .planned), n) (sym (append-nil _))
@@ -85,12 +89,12 @@ module _ (i : Input) (ok : Typed i) (k : Checked i) where
     unfolding originalFile
     wide-original h = rw (no-stream h limit, no-profile h) (append-nil _)
 
-    wide-earlier : wideIn i ≡ true → wideHead ++ storedRowsOf i ≡ earlierFile limit i
-    unfolding earlierFile fileSize pixels compressionOf plainSize
-    wide-earlier h = rw (no-stream h limit, rows-long i k, no-profile h) (sym (append-nil _))
+    wide-own : wideIn i ≡ true → wideHead ++ storedRowsOf i ≡ ownFile
+    unfolding fileSize pixels compressionOf plainSize
+    wide-own h = rw (no-stream h limit, rows-long i k, no-profile h) (sym (append-nil _))
 
     -- and with one it has them once it is fitted anew
-    pub own-file : withWideChannels i (originalFile limit i) ≡ earlierFile limit i
+    pub own-file : withWideChannels i (originalFile limit i) ≡ ownFile
     unfolding withWideChannels
     own-file = go (wideIn i) refl
       where
@@ -98,42 +102,45 @@ module _ (i : Input) (ok : Typed i) (k : Checked i) where
             → cond b
             (take (dwordAt (originalFile limit i) 10) (originalFile limit i) ++ refittedWords (masksIn i) (drop (dwordAt (originalFile limit i) 10) (originalFile limit i)))
             (originalFile limit i)
-            ≡ earlierFile limit i
+            ≡ ownFile
         go true h =
             let at : dwordAt (wideHead ++ originalRows i) 10 ≡ headBytes i = offset-at i _ _ _ _ _ (originalRows i) (omega (arith, head-small i ok k)) in
             let long : length wideHead ≡ headBytes i = length-head i _ _ _ _ _ in
             rw (wide-original h, at, take-at wideHead (originalRows i) (headBytes i) long, drop-at wideHead (originalRows i) (headBytes i) long, rows-refitted i ok k h)
-            (wide-earlier h)
+            (wide-own h)
         go false h = narrow-file h
 
     -- an RLE file or a mask file: its length less its pixel offset is the image size
-    filled-in : 0 < compressionOf limit i → headerSize (modeIn i) (i .source .format) ≡ 40 → withImageSize (earlierFile limit i) ≡ fileOf limit i
-    unfolding withImageSize earlierFile
+    filled-in : 0 < compressionOf limit i → headerSize (modeIn i) (i .source .format) ≡ 40 → withImageSize ownFile ≡ fileWith limit i (imageSize limit i) 2835 2835
+    unfolding withImageSize
     filled-in c h =
-        ap (λ (v : ℕ). put (earlierFile limit i) 34 (le32 v)) (found-size limit i c h (omega (arith, head-small i ok k)) (earlierSize i)) ∙ sym (filled limit i)
+        ap (λ (v : ℕ). put ownFile 34 (le32 v)) (found-size limit i c h (omega (arith, head-small i ok k)) (earlierSize i) 2835 2835)
+        ∙ put-image limit i (earlierSize i) 2835 2835 (imageSize limit i)
 
-    agreed-file : filledIn (formatOf limit i) (earlierFile limit i) ≡ fileOf limit i
+    filled-file : filledIn (formatOf limit i) ownFile ≡ fileWith limit i (imageSize limit i) 2835 2835
     unfolding formatOf rowsFormat
-    agreed-file = go (streamUsed limit i) (i .options .«has_bitfields») refl refl
+    filled-file = go (streamUsed limit i) (i .options .«has_bitfields») refl refl
       where
         go : (u m : Bool) → streamUsed limit i ≡ u → i .options .«has_bitfields» ≡ m
             → cond (isRleOrMasks (cond u (cond (eqb (bitsPerPixel (i .source .format)) 8) Rle8 Rle4) (cond m (maskFormat (i .options .bitfields .masks)) (plainToken (i .source .format)))))
-            (withImageSize (earlierFile limit i)) (earlierFile limit i)
-            ≡ fileOf limit i
+            (withImageSize ownFile) ownFile
+            ≡ fileWith limit i (imageSize limit i) 2835 2835
         go true m e q = rw (stream-format (eqb (bitsPerPixel (i .source .format)) 8)) (filled-in (stream-compression limit i e) (planned-header i (used-in limit i e .planned)))
         go false true e q =
             rw (mask-format (hasAlphaMask (i .options .bitfields .masks)))
             (filled-in (mask-compression limit i e q) (ap (λ (mode : Mode). headerSize mode (i .source .format)) (mask-mode i q)))
-        go false false e q = rw (plain-format (i .source .format)) (sym (same-size limit i (other-size limit i (rows-long i k) e q)))
+        go false false e q = rw (plain-format (i .source .format)) (ap (λ (n : ℕ). fileWith limit i n 2835 2835) (sym (other-size limit i (rows-long i k) e q)))
 
     pub bridge : agreed i (originalFile limit i) (formatOf limit i) ≡ fileOf limit i
-    unfolding agreed
-    bridge = ap (filledIn (formatOf limit i)) own-file ∙ agreed-file
+    unfolding agreed withResolutions fileOf
+    bridge =
+        ap (withResolutions (i .options .«x_pels_per_meter») (i .options .«y_pels_per_meter»)) (ap (filledIn (formatOf limit i)) own-file ∙ filled-file)
+        ∙ put-resolutions limit i (imageSize limit i) 2835 2835 (xPelsIn i) (yPelsIn i)
 
     -- no byte is added or lost: the original's own file is as long as the document's
     pub same-length : length (originalFile limit i) ≡ length (fileOf limit i)
-    unfolding withWideChannels fileOf earlierFile
-    same-length = sym (go (wideIn i) (originalFile limit i)) ∙ ap length own-file ∙ length-with limit i (earlierSize i) ∙ sym (length-with limit i (imageSize limit i))
+    unfolding withWideChannels fileOf
+    same-length = sym (go (wideIn i) (originalFile limit i)) ∙ ap length own-file ∙ length-with limit i (earlierSize i) 2835 2835 ∙ sym (length-with limit i (imageSize limit i) (xPelsIn i) (yPelsIn i))
       where
         go : (b : Bool) (file : List ℕ) → length (cond b (take (dwordAt file 10) file ++ refittedWords (masksIn i) (drop (dwordAt file 10) file)) file) ≡ length file
         go true file =

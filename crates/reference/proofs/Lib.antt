@@ -23,6 +23,7 @@ pub mod FileLaws
 pub mod WideChannels
 pub mod WideRows
 pub mod Bridge
+pub mod Limits
 pub mod Theorem
 pub mod Witness
 pub mod PortCalls

@@ -12,17 +12,17 @@ use Rattle.leaves.specs.declared.image.BmpPixelFormat.{BmpPixelFormat}
 use Rattle.leaves.specs.declared.image.BmpPixelFormat.the-variants as source
 use Rattle.leaves.specs.declared.encoder.EncodedBmpFormat.{EncodedBmpFormat}
 use Rattle.leaves.specs.declared.error.Refusal.{Refusal}
-use Rattle.leaves.specs.declared.error.Refusal.the-variants.{ZeroDimension, DimensionTooLarge, PaletteMissing, PaletteNotQuads, SeveralModes, MaskSource, FileTooLarge}
+use Rattle.leaves.specs.declared.error.Refusal.the-variants.{ZeroDimension, DimensionTooLarge, LimitTooLarge, NegativeResolution, PaletteMissing, PaletteNotQuads, SeveralModes, MaskSource, FileTooLarge}
 use Rattle.leaves.specs.declared.error.Check.the-variants.{Passed, Refused}
 use Rattle.leaves.specs.Formats as formats
 use Rattle.leaves.specs.Formats.{maskSource}
 use Rattle.leaves.specs.Masks.{isOneRun, bitfieldsRows}
-use Rattle.leaves.specs.Refusals.{numberOf, checkNumber, firstOf, firstNumber, profileMode, one, dimensionTooLarge, paletteMissing, paletteNotQuads, dimensionRows, paletteRows, modeRows, planeRows}
+use Rattle.leaves.specs.Refusals.{numberOf, checkNumber, firstOf, firstNumber, profileMode, one, dimensionTooLarge, limitTooLarge, negativeResolution, paletteMissing, paletteNotQuads, dimensionRows, settingsRows, paletteRows, modeRows, planeRows}
 use Rattle.leaves.specs.Sizes as counts
 use Rattle.leaves.proofs.ListLaws.{length-tab}
 use Rattle.format.specs.declared.layout.Mode.{Mode}
 use Rattle.format.specs.declared.layout.Mode.the-variants.{Masked, Calibrated, Profiled, Plain}
-use Rattle.format.specs.File.{modeIn, depthIn, packIn, entriesOf}
+use Rattle.format.specs.File.{limitIn, modeIn, depthIn, packIn, entriesOf}
 use Rattle.format.specs.Layout as layout
 use Rattle.format.specs.Layout.{modeOf, isMasked, channelsOf, plainPack, maskPack, tableEntries, maskFormat}
 use Rattle.format.specs.Accepted.{MasksAccepted}
@@ -199,7 +199,7 @@ sizedIn m i rows = sizesOf (headFor m (i .source .format) i) rows maxFile >>= λ
 abbrev rowsIn : RowPack → Input → Run Rows
 rowsIn pack i = newRows (record { stride = i .source .stride; «data» = i .plane }) pack (i .source .width) (i .source .height) (i .options .«top_down»)
 
-bind-bind : {A B C : Type 0} (m : Run A) (f : A → Run B) (g : B → Run C) → (m >>= f >>= g) ≡ (m >>= λ a. f a >>= g)
+pub bind-bind : {A B C : Type 0} (m : Run A) (f : A → Run B) (g : B → Run C) → (m >>= f >>= g) ≡ (m >>= λ a. f a >>= g)
 bind-bind (done a) f g = refl
 bind-bind (fails e) f g = refl
 bind-bind panics f g = refl
@@ -338,6 +338,9 @@ module _ (i : Input) (ok : Typed i) (domain : Domain i) where
   abbrev dimensions : List (Bool × Refusal)
   dimensions = dimensionRows (i .source .width) (i .source .height)
 
+  abbrev settings : List (Bool × Refusal)
+  settings = settingsRows (i .options .limit) (i .options .«x_pels_per_meter») (i .options .«y_pels_per_meter»)
+
   abbrev palettes : List (Bool × Refusal)
   palettes = paletteRows (formats.isIndexed (i .source .format)) (i .source .«has_palette») (length (i .palette))
 
@@ -351,12 +354,13 @@ module _ (i : Input) (ok : Typed i) (domain : Domain i) where
   channels = givenMasksRows (i .source) (i .options)
 
   -- what stops among the first rows stops the plan
-  first-two : (why : Refusal) → firstOf (dimensions ++ palettes) ≡ Refused why → firstNumber (planRows maxFile i) ≡ numberOf why
+  first-three : (why : Refusal) → firstOf (dimensions ++ settings ++ palettes) ≡ Refused why → firstNumber (planRows (limitIn i) i) ≡ numberOf why
   unfolding planRows checkRows
-  first-two why e =
+  first-three why e =
       ap checkNumber
-      (first-stop (dimensions ++ palettes ++ modes ++ channels ++ planes) ((fileTooLarge maxFile i, FileTooLarge) ∷ []) why
-      (first-stop (dimensions ++ palettes ++ modes ++ channels) planes why (first-stop (dimensions ++ palettes ++ modes) channels why (first-stop (dimensions ++ palettes) modes why e))))
+      (first-stop (dimensions ++ settings ++ palettes ++ modes ++ channels ++ planes) ((fileTooLarge (limitIn i) i, FileTooLarge) ∷ []) why
+      (first-stop (dimensions ++ settings ++ palettes ++ modes ++ channels) planes why
+      (first-stop (dimensions ++ settings ++ palettes ++ modes) channels why (first-stop (dimensions ++ settings ++ palettes) modes why e))))
 
   -- 1, and 2 that does not apply
   dimensions-follow : (k : Run Plan) → Follows dimensions (failIf (rows.zeroDimension (i .source .width) (i .source .height)) zeroDimension >> k) k
@@ -368,10 +372,29 @@ module _ (i : Input) (ok : Typed i) (domain : Domain i) where
     where
       go : (b : Bool) → dimensionTooLarge (i .source .width) (i .source .height) ≡ b → rows.zeroDimension (i .source .width) (i .source .height) ≡ false → Follows ((b, DimensionTooLarge) ∷ []) k k
       go false e z = follow.row-passes false DimensionTooLarge k refl
-      go true e z = absurd (domain .not-2 (first-two DimensionTooLarge (first-stop dimensions palettes DimensionTooLarge (rw (z, e)))))
+      go true e z = absurd (domain .not-2 (first-three DimensionTooLarge (first-stop (dimensions ++ settings) palettes DimensionTooLarge (first-stop dimensions settings DimensionTooLarge (rw (z, e))))))
+
+  -- 20 and 21 that do not apply
+  settings-follow : firstOf dimensions ≡ Passed → (k : Run Plan) → Follows settings k k
+  unfolding settingsRows
+  settings-follow passed k =
+      let large = limitTooLarge (i .options .limit) in
+      let negative = negativeResolution (i .options .«x_pels_per_meter») (i .options .«y_pels_per_meter») in
+      follow.then ((large, LimitTooLarge) ∷ []) ((negative, NegativeResolution) ∷ []) k k k (go large refl) (λ p. fall negative refl (follow.row-passed large LimitTooLarge p))
+    where
+      stops : (why : Refusal) → firstOf settings ≡ Refused why → firstNumber (planRows (limitIn i) i) ≡ numberOf why
+      stops why e = first-three why (first-stop (dimensions ++ settings) palettes why (first-pass dimensions settings passed ∙ e))
+
+      go : (b : Bool) → limitTooLarge (i .options .limit) ≡ b → Follows ((b, LimitTooLarge) ∷ []) k k
+      go false e = follow.row-passes false LimitTooLarge k refl
+      go true e = absurd (domain .not-20 (stops LimitTooLarge (rw e)))
+
+      fall : (b : Bool) → negativeResolution (i .options .«x_pels_per_meter») (i .options .«y_pels_per_meter») ≡ b → limitTooLarge (i .options .limit) ≡ false → Follows ((b, NegativeResolution) ∷ []) k k
+      fall false e z = follow.row-passes false NegativeResolution k refl
+      fall true e z = absurd (domain .not-21 (stops NegativeResolution (rw (z, e))))
 
   -- 3, and 4 that does not apply
-  palettes-follow : firstOf dimensions ≡ Passed → (k : Run Plan) → Follows palettes (failIf (isIndexed (i .source .format) && not (isSome (sourceOf i .palette))) requiresPalette >> k) k
+  palettes-follow : firstOf (dimensions ++ settings) ≡ Passed → (k : Run Plan) → Follows palettes (failIf (isIndexed (i .source .format) && not (isSome (sourceOf i .palette))) requiresPalette >> k) k
   unfolding paletteRows sourceOf
   palettes-follow passed k =
       let missing = paletteMissing (formats.isIndexed (i .source .format)) (i .source .«has_palette») in
@@ -381,7 +404,7 @@ module _ (i : Input) (ok : Typed i) (domain : Domain i) where
     where
       go : (b : Bool) → paletteNotQuads (formats.isIndexed (i .source .format)) (length (i .palette)) ≡ b → paletteMissing (formats.isIndexed (i .source .format)) (i .source .«has_palette») ≡ false → Follows ((b, PaletteNotQuads) ∷ []) k k
       go false e z = follow.row-passes false PaletteNotQuads k refl
-      go true e z = absurd (domain .not-4 (first-two PaletteNotQuads (first-pass dimensions palettes passed ∙ rw (z, e))))
+      go true e z = absurd (domain .not-4 (first-three PaletteNotQuads (first-pass (dimensions ++ settings) palettes passed ∙ rw (z, e))))
 
   -- what is left after 5
   abbrev chosen : Run Plan
@@ -433,7 +456,7 @@ module _ (i : Input) (ok : Typed i) (domain : Domain i) where
   unfolding checkRows paletteRows
   quads p =
       let f = formats.isIndexed (i .source .format) in
-      let four = first-parts dimensions palettes (first-parts (dimensions ++ palettes) modes (first-parts (dimensions ++ palettes ++ modes) channels (first-parts (dimensions ++ palettes ++ modes ++ channels) planes p .0) .0) .0) .1 in
+      let four = first-parts (dimensions ++ settings) palettes (first-parts (dimensions ++ settings ++ palettes) modes (first-parts (dimensions ++ settings ++ palettes ++ modes) channels (first-parts (dimensions ++ settings ++ palettes ++ modes ++ channels) planes p .0) .0) .0) .1 in
       go f refl (row-parts (paletteNotQuads f (length (i .palette))) PaletteNotQuads _ (row-parts (paletteMissing f (i .source .«has_palette»)) PaletteMissing _ four .1) .0)
     where
       go : (b : Bool) → formats.isIndexed (i .source .format) ≡ b → (b && not (eqb (length (i .palette) % 4) 0)) ≡ false → (length (i .palette) % 4 ≡ 0) ⊎ (formats.isIndexed (i .source .format) ≡ false)
@@ -446,9 +469,10 @@ module _ (i : Input) (ok : Typed i) (domain : Domain i) where
   new-plan =
       let three : Run Plan = exclusive chosen in
       let two : Run Plan = failIf (isIndexed (i .source .format) && not (isSome (sourceOf i .palette))) requiresPalette >> three in
-      follow.then (dimensions ++ palettes ++ modes ++ channels) planes _ _ _
-      (follow.then (dimensions ++ palettes ++ modes) channels _ chosen _
-      (follow.then (dimensions ++ palettes) modes _ three _ (follow.then dimensions palettes _ two _ (dimensions-follow two) (λ p. palettes-follow p three)) (λ _. modes-follow chosen))
-      (λ p. masks-follow (palette-of (first-parts dimensions palettes (first-parts (dimensions ++ palettes) modes p .0) .1))))
-      (λ p. let given = given-masks (i .source) (i .options) (first-parts (dimensions ++ palettes ++ modes) channels p .1) in
+      follow.then (dimensions ++ settings ++ palettes ++ modes ++ channels) planes _ _ _
+      (follow.then (dimensions ++ settings ++ palettes ++ modes) channels _ chosen _
+      (follow.then (dimensions ++ settings ++ palettes) modes _ three _
+      (follow.then (dimensions ++ settings) palettes _ two _ (follow.then dimensions settings _ two _ (dimensions-follow two) (λ p. settings-follow p two)) (λ p. palettes-follow p three)) (λ _. modes-follow chosen))
+      (λ p. masks-follow (palette-of (first-parts (dimensions ++ settings) palettes (first-parts (dimensions ++ settings ++ palettes) modes p .0) .1))))
+      (λ p. let given = given-masks (i .source) (i .options) (first-parts (dimensions ++ settings ++ palettes ++ modes) channels p .1) in
       planes-follow (pack-sizes i (λ e. given e .0) (λ e. given e .1)))

@@ -3,14 +3,14 @@ use mathlib.Core.Path.{_≡_, refl, sym, _∙_}
 use Prim.Native.Nat.{ℕ, zero, suc, _<_}
 use native.Mathlib.Omega.{arith}
 use lib.ListN.{getD, replicate}
-use Rattle.leaves.specs.Refusals.{firstNumber, dimensionRows, paletteRows, modeRows, planeRows}
+use Rattle.leaves.specs.Refusals.{firstNumber, dimensionRows, settingsRows, paletteRows, modeRows, planeRows}
 use Rattle.leaves.specs.Sizes.{rowStride, paletteEntryCount, writtenPaletteEntries}
 use Rattle.format.specs.File.{maxFile, budget, plainSize, boundOf}
 use Rattle.format.specs.Layout.{modeOf, tailIn, depthOf, tableEntries, headRest, headLen, rawLen, wantsRle}
 use Rattle.format.specs.Refusals.{givenMasksRows, checkRows, fileTooLarge, bufferTooShort, streamOverBudget, planRows, writeRows}
 use Rattle.format.proofs.ExampleInputs.{sevens}
-use Rattle.reference.specs.Compared.{Typed, Domain, SameAnswers}
-use Rattle.reference.proofs.Theorem.{same-answers}
+use Rattle.reference.specs.Compared.{Typed, Domain, SameAsSource}
+use Rattle.reference.proofs.Theorem.{same-as-source}
 
 -- a place in a list of equal numbers holds that number, and a place outside 0
 below : (n v k most : ℕ) → v < most → getD (replicate n v) k 0 < most
@@ -20,12 +20,12 @@ below (suc n) v (suc k) most h = below n v k most h
 
 -- no row of 1 to 14 applies
 m12-passes : firstNumber (planRows maxFile (sevens 5 5 5)) ≡ 0
-unfolding planRows checkRows dimensionRows paletteRows modeRows givenMasksRows planeRows fileTooLarge wantsRle modeOf
+unfolding planRows checkRows dimensionRows settingsRows paletteRows modeRows givenMasksRows planeRows fileTooLarge wantsRle modeOf
 m12-passes = refl
 
 -- nor of 1 to 16, in a buffer of as many bytes as the bound
 pub m12-written : firstNumber (writeRows maxFile (sevens 5 5 5) 78 0) ≡ 0
-unfolding writeRows planRows checkRows dimensionRows paletteRows modeRows givenMasksRows planeRows fileTooLarge bufferTooShort streamOverBudget boundOf budget plainSize tailIn rawLen depthOf headLen headRest tableEntries writtenPaletteEntries paletteEntryCount rowStride wantsRle modeOf
+unfolding writeRows planRows checkRows dimensionRows settingsRows paletteRows modeRows givenMasksRows planeRows fileTooLarge bufferTooShort streamOverBudget boundOf budget plainSize tailIn rawLen depthOf headLen headRest tableEntries writtenPaletteEntries paletteEntryCount rowStride wantsRle modeOf
 m12-written = refl
 
 pub m12-typed : Typed (sevens 5 5 5)
@@ -44,8 +44,10 @@ m12-in-domain =
     record {
       not-2 = λ e. let z : _≡_ {A = ℕ} 0 2 = sym m12-passes ∙ e in omega (arith, z);
       not-4 = λ e. let z : _≡_ {A = ℕ} 0 4 = sym m12-passes ∙ e in omega (arith, z);
+      not-20 = λ e. let z : _≡_ {A = ℕ} 0 20 = sym m12-passes ∙ e in omega (arith, z);
+      not-21 = λ e. let z : _≡_ {A = ℕ} 0 21 = sym m12-passes ∙ e in omega (arith, z);
       product = omega arith;
     }
 
-pub m12-answers : SameAnswers (sevens 5 5 5)
-m12-answers = same-answers (sevens 5 5 5) m12-typed m12-in-domain
+pub m12-answers : SameAsSource (sevens 5 5 5)
+m12-answers = same-as-source (sevens 5 5 5) m12-typed m12-in-domain refl

@@ -5,7 +5,10 @@ use mathlib.Core.Path.{_≡_}
 use mathlib.Core.List.{List, [], _∷_, _++_}
 use lib.Bits.{bitAnd}
 use lib.Dec.{ltb}
+use lib.IntN.{ℤ}
 use lib.ListN.{length, getD, take, drop}
+use mir.Syntax.{w32}
+use mir.Val.{ofZ}
 use Rattle.leaves.specs.declared.error.Check.{Check}
 use Rattle.leaves.specs.declared.error.Check.the-variants as check
 use Rattle.leaves.specs.declared.encoder.EncodedBmpFormat.{EncodedBmpFormat}
@@ -21,10 +24,10 @@ use Rattle.format.specs.Input.{Input}
 use Rattle.format.specs.Readers.{dwordAt}
 use Rattle.format.specs.Refusals.{planRows, streamOverBudget}
 use Rattle.leaves.specs.declared.error.Refusal.{Refusal}
-use Rattle.leaves.specs.declared.error.Refusal.the-variants.{ZeroDimension, DimensionTooLarge, PaletteMissing, PaletteNotQuads, SeveralModes, MaskDepth, MaskAboveDepth, MaskNotOneRun, MaskOverlap, NoColourMask, MaskSource, PlaneTooShort, StrideTooShort, FileTooLarge, BufferTooShort, StreamOverBudget}
+use Rattle.leaves.specs.declared.error.Refusal.the-variants.{ZeroDimension, DimensionTooLarge, PaletteMissing, PaletteNotQuads, SeveralModes, MaskDepth, MaskAboveDepth, MaskNotOneRun, MaskOverlap, NoColourMask, MaskSource, PlaneTooShort, StrideTooShort, FileTooLarge, BufferTooShort, StreamOverBudget, LimitTooLarge, NegativeResolution}
 use Rattle.reference.specs.Rust.{Error, zeroDimension, requiresPalette, mutuallyExclusive, bitfieldsBpp, maskExceeds, maskNotContiguous, maskOverlaps, noColourMask, bitfieldsSource, planeTruncated, strideBelowRow, pixelArrayOverflows, fileOverflows, overLimit, notAddressable, rleOverLimit, Kind, InvalidData, Unsupported, kindOf, Run, done, fails, panics, _>>=_, Option, some, none}
 use Rattle.reference.specs.Types.{BmpBitfields, EncodeSource, EncodeOptions}
-use Rattle.reference.specs.Plan.{newPlan, Appended, wrote, refused, writeInto, encodeSource}
+use Rattle.reference.specs.Plan.{Plan, newPlan, withLimit, Appended, wrote, refused, writeInto, appended, encodeSource}
 
 -- ---- what it is handed
 
@@ -83,7 +86,7 @@ errorNumber overLimit = 14
 errorNumber notAddressable = 0
 errorNumber rleOverLimit = 16
 
--- the table's column "Rust"; none where it says "added"
+-- the table's column "Rust"; none where it says "added", and of document 02's numbers, which the Rust has not
 abbrev pub rustKind : Refusal → Option Kind
 rustKind ZeroDimension = some InvalidData
 rustKind DimensionTooLarge = none
@@ -101,6 +104,8 @@ rustKind StrideTooShort = some InvalidData
 rustKind FileTooLarge = some Unsupported
 rustKind BufferTooShort = none
 rustKind StreamOverBudget = some Unsupported
+rustKind LimitTooLarge = none
+rustKind NegativeResolution = none
 
 -- a refusal has its number and its kind
 pub data Outcome (A : Type 0) : Type 0 where
@@ -175,9 +180,13 @@ withImageSize file = put file 34 (le32 (length file - dwordAt file 10))
 abbrev pub filledIn : EncodedBmpFormat → List ℕ → List ℕ
 filledIn format file = cond (isRleOrMasks format) (withImageSize file) file
 
+-- "with the two resolution fields set" (document 02, A.5): biXPelsPerMeter and biYPelsPerMeter
+unfoldable pub withResolutions : ℤ → ℤ → List ℕ → List ℕ
+withResolutions x y file = put (put file 38 (le32 (ofZ w32 x))) 42 (le32 (ofZ w32 y))
+
 -- what the original's own file, of this format, becomes here
 unfoldable pub agreed : Input → List ℕ → EncodedBmpFormat → List ℕ
-agreed i file format = filledIn format (withWideChannels i file)
+agreed i file format = withResolutions (i .options .«x_pels_per_meter») (i .options .«y_pels_per_meter») (filledIn format (withWideChannels i file))
 
 -- the length of the original's own file, before any difference
 abbrev pub sizeOf : List ℕ × EncodedBmpFormat → Run (ℕ × EncodedBmpFormat)
@@ -194,10 +203,13 @@ agreedBehind i out (refused e all) = done (refused e all)
 
 -- ---- the comparison
 
--- "Domain of the comparison: 2, 4 and 15 don't apply and stride × height is below 2^64"; 15 is a lent buffer's, which the original has not
+-- "Domain of the comparison: 2, 4 and 15 don't apply and stride × height is below 2^64"; 15 is a lent buffer's, which the original has not. Document 02,
+-- A.5: "leaves out 20 and 21 as it does 2 and 4"
 pub record Domain (i : Input) : Type 0 where
-  pub not-2 : firstNumber (planRows document.maxFile i) ≡ 2 → ⊥
-  pub not-4 : firstNumber (planRows document.maxFile i) ≡ 4 → ⊥
+  pub not-2 : firstNumber (planRows (document.limitIn i) i) ≡ 2 → ⊥
+  pub not-4 : firstNumber (planRows (document.limitIn i) i) ≡ 4 → ⊥
+  pub not-20 : firstNumber (planRows (document.limitIn i) i) ≡ 20 → ⊥
+  pub not-21 : firstNumber (planRows (document.limitIn i) i) ≡ 21 → ⊥
   pub product : i .source .stride * i .source .height < 2 ^ 64
 
 -- what the arguments' types hold
@@ -209,25 +221,38 @@ pub record Typed (i : Input) : Type 0 where
   pub nine-endpoints : length (i .options .«calibrated_rgb» .endpoints) ≡ 9
   pub three-gammas : length (i .options .«calibrated_rgb» .gamma) ≡ 3
 
--- `encoded_size_bound`, of what `Plan::new` makes
-abbrev pub sizeBound : EncodeSource → EncodeOptions → Run ℕ
-sizeBound src options = newPlan src options >>= λ plan. done (plan .sizes .bound)
+-- `encoded_size_bound`, of a plan
+abbrev pub boundOf : Run Plan → Run ℕ
+boundOf plan = plan >>= λ p. done (p .sizes .bound)
 
--- `encode_into`, of what `Plan::new` makes: the file behind what stands in `out`
-abbrev pub encodeBehind : EncodeSource → EncodeOptions → List ℕ → Run Appended
-encodeBehind src options out = newPlan src options >>= λ plan. writeInto plan out
+-- `encode_into`, of a plan: the file behind what stands in `out`
+abbrev pub behind : Run Plan → List ℕ → Run Appended
+behind plan out = plan >>= λ p. writeInto p out
+
+-- `encode_source`, of a plan
+abbrev pub encoded : Run Plan → Run (List ℕ × EncodedBmpFormat)
+encoded plan = plan >>= λ p. writeInto p [] >>= appended
+
+-- "The Rust comparison uses `with_limit`" (document 02, A.5): `Plan::new(..)?.with_limit(limit)?`
+abbrev pub limited : EncodeSource → EncodeOptions → ℕ → Run Plan
+limited src options limit = newPlan src options >>= λ p. withLimit p limit
 
 -- the rows of the writing call without 15
 unfoldable pub fileRows : Input → List (Bool × Refusal)
-fileRows i = planRows document.maxFile i ++ ((streamOverBudget document.maxFile i, StreamOverBudget) ∷ [])
+fileRows i = planRows (document.limitIn i) i ++ ((streamOverBudget (document.limitIn i) i, StreamOverBudget) ∷ [])
 
 -- Bound, length, file (with the agreed differences), format and refusal, with its kind, are the document's, and nothing panics. Where `out` has room for the bound of a plan in a Vec, the file stands
 -- behind what `out` held, and the one Err that `write_into` returns leaves `out` as it was; where there is no plan, no room is asked for.
-pub record SameAnswers (i : Input) : Type 0 where
-  pub bound : outcome (sizeBound (sourceOf i) (optionsOf i)) ≡ answer (firstOf (planRows document.maxFile i)) (document.boundOf document.maxFile i)
-  pub size : outcome (encodeSource (sourceOf i) (optionsOf i) >>= sizeOf) ≡ answer (firstOf (fileRows i)) (length (document.fileOf document.maxFile i), document.formatOf document.maxFile i)
-  pub file : outcome (encodeSource (sourceOf i) (optionsOf i) >>= agreedFile i) ≡ answer (firstOf (fileRows i)) (document.fileOf document.maxFile i, document.formatOf document.maxFile i)
-  pub behind : (out : List ℕ) → (firstOf (planRows document.maxFile i) ≡ check.Passed → length out + document.boundOf document.maxFile i < 2 ^ 63)
-      → outcome (encodeBehind (sourceOf i) (optionsOf i) out >>= agreedBehind i out)
-      ≡ answer (firstOf (planRows document.maxFile i))
-      (cond (streamOverBudget document.maxFile i) (refused rleOverLimit out) (wrote (document.formatOf document.maxFile i) (out ++ document.fileOf document.maxFile i)))
+pub record SameAnswers (i : Input) (plan : Run Plan) : Type 0 where
+  pub bound : outcome (boundOf plan) ≡ answer (firstOf (planRows (document.limitIn i) i)) (document.boundOf (document.limitIn i) i)
+  pub size : outcome (encoded plan >>= sizeOf) ≡ answer (firstOf (fileRows i)) (length (document.fileOf (document.limitIn i) i), document.formatOf (document.limitIn i) i)
+  pub file : outcome (encoded plan >>= agreedFile i) ≡ answer (firstOf (fileRows i)) (document.fileOf (document.limitIn i) i, document.formatOf (document.limitIn i) i)
+  pub appends : (out : List ℕ) → (firstOf (planRows (document.limitIn i) i) ≡ check.Passed → length out + document.boundOf (document.limitIn i) i < 2 ^ 63)
+      → outcome (behind plan out >>= agreedBehind i out)
+      ≡ answer (firstOf (planRows (document.limitIn i) i))
+      (cond (streamOverBudget (document.limitIn i) i) (refused rleOverLimit out) (wrote (document.formatOf (document.limitIn i) i) (out ++ document.fileOf (document.limitIn i) i)))
+
+-- `encode_source` itself, which knows no limit but the largest file: its plan, and what it returns
+pub record SameAsSource (i : Input) : Type 0 where
+  pub answers : SameAnswers i (newPlan (sourceOf i) (optionsOf i))
+  pub returned : encoded (newPlan (sourceOf i) (optionsOf i)) ≡ encodeSource (sourceOf i) (optionsOf i)

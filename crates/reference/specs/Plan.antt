@@ -272,6 +272,12 @@ newPlan src options = do
   failIf (ltb 1 requested) mutuallyExclusive
   planFor src options (options .bitfields) (options .«calibrated_rgb») (profileOf (options .«linked_icc») embedded)
 
+-- fn with_limit(mut self, limit: u64) -> Result<Self>
+unfoldable pub withLimit : Plan → ℕ → Run Plan
+withLimit self limit = do
+  sizes ← sizesOf (self .head) (self .rows) limit
+  done (record { head = self .head; rows = self .rows; width = self .width; height = self .height; format = self .format; sizes = sizes })
+
 -- ---- writing
 
 -- fn signed_stored_height(h: u32, top_down: bool) -> i32
