@@ -20,6 +20,8 @@ use Rattle.planner.specs.declared.plan.SizeBound.{SizeBound}
 use Rattle.planner.specs.declared.plan.SizeBound.the-variants as sized
 use Rattle.planner.specs.Answers.{bytesFor, formatFor, laterFor, boundFor, Written, Sized}
 use Rattle.planner.specs.Calls.{called}
+use Rattle.planner.proofs.Defaults.{WrittenBefore, SizedBefore, ByDefault, written-before, sized-before}
+use Rattle.planner.proofs.Promises.{written-determined, sized-determined}
 use Rattle.capi.specs.declared.BmpAnswer.{BmpAnswer}
 use Rattle.capi.specs.declared.BmpOptions.{BmpOptions}
 use Rattle.capi.specs.declared.BmpSettings.{BmpSettings}
@@ -27,7 +29,7 @@ use Rattle.capi.specs.declared.BmpSource.{BmpSource}
 use Rattle.capi.specs.declared.SourceFormat.{SourceFormat}
 use Rattle.capi.specs.declared.SourceFormat.the-variants.{Known, Unknown}
 use lib.Seq.{getD-append-add}
-use Rattle.capi.specs.Interface.{formats, formatAt, sourceOf, optionsOf, encodedAnswer, boundAnswer, unknownFormat, Encodes, Bounds, EncodePromise, BoundPromise}
+use Rattle.capi.specs.Interface.{formats, formatAt, sourceOf, defaultSettings, optionsOf, encodedAnswer, boundAnswer, unknownFormat, Encodes, Bounds, EncodePromise, BoundPromise}
 
 -- the promise of the writing call in numbers alone
 abbrev formatsNumber : List EncodedBmpFormat → ℕ
@@ -84,6 +86,40 @@ encode-unknown l source options settings plane palette icc linked offset was e =
 pub bound-unknown : (l : SourceFormat) (source : BmpSource) (options : BmpOptions) (settings : BmpSettings) (plane palette icc linked : List ℕ) → Unknown ≡ l
     → BoundPromise l source options settings plane palette icc linked unknownFormat
 bound-unknown l source options settings plane palette icc linked e = subst (λ (k : SourceFormat). BoundPromise k source options settings plane palette icc linked unknownFormat) e refl
+
+-- ---- the functions with and without settings
+
+-- the promises determine answer and buffer: so a function without settings does what the one with settings does at the defaults
+pub encode-determined : (l : SourceFormat) (source : BmpSource) (options : BmpOptions) (settings : BmpSettings) (plane palette icc linked : List ℕ) (offset : ℕ) (was later other : List ℕ) (a b : BmpAnswer)
+    → EncodePromise l source options settings plane palette icc linked offset was later a → EncodePromise l source options settings plane palette icc linked offset was other b
+    → (a ≡ b) × (later ≡ other)
+encode-determined (Known f) source options settings plane palette icc linked offset was later other a b p q =
+    let same = written-determined (called (sourceOf source f) (optionsOf options settings) plane palette icc linked) offset was later other (p .writer) (q .writer) (p .promise) (q .promise) in
+    (p .answer ∙ ap encodedAnswer (same .0) ∙ sym (q .answer), same .1)
+encode-determined Unknown source options settings plane palette icc linked offset was later other a b p q = (p .0 ∙ sym (q .0), p .1 ∙ sym (q .1))
+
+pub bound-determined : (l : SourceFormat) (source : BmpSource) (options : BmpOptions) (settings : BmpSettings) (plane palette icc linked : List ℕ) (a b : BmpAnswer)
+    → BoundPromise l source options settings plane palette icc linked a → BoundPromise l source options settings plane palette icc linked b → a ≡ b
+bound-determined (Known f) source options settings plane palette icc linked a b p q =
+    p .answer
+    ∙ ap boundAnswer (sized-determined (called (sourceOf source f) (optionsOf options settings) plane palette icc linked) (p .writer) (q .writer) (p .promise) (q .promise))
+    ∙ sym (q .answer)
+bound-determined Unknown source options settings plane palette icc linked a b p q = p ∙ sym q
+
+-- and at the defaults the writer's promise is the one from before the settings
+module _ (f : BmpPixelFormat) (source : BmpSource) (options : BmpOptions) (plane palette icc linked : List ℕ) where
+  abbrev before : Input
+  before = called (sourceOf source f) (optionsOf options defaultSettings) plane palette icc linked
+
+  by-default : ByDefault (before .options)
+  by-default = record { limit = refl; x = refl; y = refl }
+
+  pub encode-before : (offset : ℕ) (was later : List ℕ) (a : BmpAnswer)
+      → (p : EncodePromise (Known f) source options defaultSettings plane palette icc linked offset was later a) → WrittenBefore before offset was later (p .writer)
+  encode-before offset was later a p = written-before before by-default offset was later (p .writer) (p .promise)
+
+  pub bound-before : (a : BmpAnswer) → (p : BoundPromise (Known f) source options defaultSettings plane palette icc linked a) → SizedBefore before (p .writer)
+  bound-before a p = sized-before before by-default (p .writer) (p .promise)
 
 -- numbers past the list
 pub format-past : (n : ℕ) → 10 ≤ n → Unknown ≡ formatAt n

@@ -20,7 +20,7 @@ use Rattle.leaves.specs.declared.error.Refusal.the-variants.{MaskSource, FileTo
 use Rattle.leaves.specs.Lists.{cat}
 use Rattle.leaves.specs.Masks.{count, isOneRun, sharesBit, maskDepth, maskRows, bitfieldsRows}
 use Rattle.leaves.specs.Refusals.{firstOf, profileMode, dimensionRows, settingsRows, paletteRows, modeRows, planeRows}
-use Rattle.format.specs.File.{rlePlanned, rawBytes, streamOf, maxFile, limitIn, budget, streamUsed, storedRowsOf, plainSize}
+use Rattle.format.specs.File.{rlePlanned, rawBytes, streamOf, maxFile, limitIn, budget, streamUsed, storedRowsOf, fileSize, plainSize}
 use Rattle.format.specs.Refusals.{fileTooLarge, bufferTooShort, streamOverBudget, givenMasksRows, checkRows, callRows, planRows, writeRows}
 use Rattle.leaves.specs.Formats.{bytesPerPixel, isIndexed, maskSource}
 use Rattle.format.proofs.Modes.{both}
@@ -209,17 +209,23 @@ plan-passed i e =
     let both = first-parts (callRows i) ((fileTooLarge (limitIn i) i, FileTooLarge) ∷ []) e in
     (checked i (both .0), row-parts (fileTooLarge (limitIn i) i) FileTooLarge (firstOf []) (both .1) .0)
 
+-- 1 to 16 passed: the file keeps to the limit
+pub keeps-limit : (i : Input) (room offset : ℕ) → firstOf (writeRows (limitIn i) i room offset) ≡ Passed → Checked i × (fileSize (limitIn i) i ≤ limitIn i)
+unfolding writeRows
+keeps-limit i room offset e =
+    let writing : List (Bool × Refusal) = (bufferTooShort (limitIn i) i room offset, BufferTooShort) ∷ (streamOverBudget (limitIn i) i, StreamOverBudget) ∷ [] in
+    let all = first-parts (planRows (limitIn i) i) writing e in
+    let plan = plan-passed i (all .0) in
+    let over = row-parts (streamOverBudget (limitIn i) i) StreamOverBudget (firstOf []) (row-parts (bufferTooShort (limitIn i) i room offset) BufferTooShort _ (all .1) .1) .0 in
+    (plan .0, file-fits (limitIn i) i (rows-long i (plan .0)) (size-fits (limitIn i) i (plan .1) over))
+
 -- a call that no row of the table refuses
 pub accepted : (i : Input) (room offset : ℕ) → ((k : ℕ) → getD (i .plane) k 0 < 256) → ((k : ℕ) → getD (i .palette) k 0 < 256)
     → length (i .options .«calibrated_rgb» .endpoints) ≡ 9 → length (i .options .«calibrated_rgb» .gamma) ≡ 3
     → firstOf (writeRows (limitIn i) i room offset) ≡ Passed → Accepted i
-unfolding writeRows
 accepted i room offset plane-bytes palette-bytes nine three e =
-    let writing : List (Bool × Refusal) = (bufferTooShort (limitIn i) i room offset, BufferTooShort) ∷ (streamOverBudget (limitIn i) i, StreamOverBudget) ∷ [] in
-    let all = first-parts (planRows (limitIn i) i) writing e in
-    let plan = plan-passed i (all .0) in
-    let k = plan .0 in
-    let over = row-parts (streamOverBudget (limitIn i) i) StreamOverBudget (firstOf []) (row-parts (bufferTooShort (limitIn i) i room offset) BufferTooShort _ (all .1) .1) .0 in
+    let passed = keeps-limit i room offset e in
+    let k = passed .0 in
     record {
       some-width = k .some-width;
       wide = k .wide;
@@ -233,6 +239,6 @@ accepted i room offset plane-bytes palette-bytes nine three e =
       plane-long = k .plane-long;
       masks = k .masks;
       samples = k .samples;
-      fits = file-fits (limitIn i) i (rows-long i k) (size-fits (limitIn i) i (plan .1) over);
+      fits = passed .1;
       limited = k .limited;
     }

@@ -1,4 +1,5 @@
 pub mod CallLaws
+pub mod Defaults
 pub mod FileWrites
 pub mod HeadLaws
 pub mod HeadWrites

@@ -1,4 +1,4 @@
--- What the promises of the two calls amount to: they determine the answer, leave all other bytes alone, and refuse exactly what the table refuses.
+-- What the promises of the two calls amount to: they determine the answer, leave all other bytes alone, keep to the limit, and refuse exactly what the table refuses.
 use mathlib.Core.Path.{_≡_, refl, sym, ap, _∙_}
 use mathlib.Core.Bool.{Bool, true, false, false≢true, cond}
 use mathlib.Core.List.{List, [], _∷_}
@@ -16,6 +16,7 @@ use Rattle.format.specs.Input.{Input}
 use Rattle.format.specs.Refusals.{writeRows}
 use Rattle.leaves.proofs.FirstOf.{check-determined}
 use Rattle.leaves.proofs.Puts.{before-put, after-put}
+use Rattle.format.proofs.Acceptance.{keeps-limit}
 use Rattle.format.proofs.HeadFields.{length-file}
 use Rattle.planner.specs.declared.encoder.Encoded.{Encoded}
 use Rattle.planner.specs.declared.encoder.Encoded.the-variants as encoded
@@ -107,6 +108,14 @@ others-stay i offset was later r h p = go (firstOf (writeRows (limitIn i) i (len
 pub refusal-changes-nothing : (i : Input) (offset : ℕ) (was later : List ℕ) (why : Refusal) → Written i offset was later (encoded.Refused why) → later ≡ was
 refusal-changes-nothing i offset was later why p =
     p .buffer ∙ ap (λ (c : Check). laterFor c i offset was) (check-determined (firstOf (writeRows (limitIn i) i (length was) offset)) (check.Refused why) (sym (p .number)))
+
+-- no call reports more bytes than its limit
+pub within-limit : (i : Input) (offset : ℕ) (was later : List ℕ) (r : Encoded) → Written i offset was later r → encodedBytes r ≤ limitIn i
+within-limit i offset was later r p = go (firstOf (writeRows (limitIn i) i (length was) offset)) refl (p .bytes)
+  where
+    go : (c : Check) → firstOf (writeRows (limitIn i) i (length was) offset) ≡ c → encodedBytes r ≡ bytesFor c i → encodedBytes r ≤ limitIn i
+    go check.Passed e b = omega (arith, b, keeps-limit i (length was) offset e .1)
+    go (check.Refused why) e b = omega (arith, b)
 
 -- ---- the first row that applies
 
