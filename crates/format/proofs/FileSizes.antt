@@ -124,9 +124,7 @@ coded-fits : (limit : ℕ) (i : Input) → streamUsed limit i ≡ true → headB
 unfolding budget
 coded-fits limit i e =
     let used = used-in limit i e in
-    let under : length (streamOf i) < min (rawBytes i) (limit + 1 - headBytes i) = used .under in
-    let alone : length (tailOf i) ≡ 0 = no-tail i (used .planned) in
-    omega (arith, alone)
+    omega (arith, used .under, no-tail i (used .planned))
 
 -- a file whose plain form fits, or whose stream is under the budget, fits
 pub file-fits : (limit : ℕ) (i : Input) → length (storedRowsOf i) ≡ rawBytes i → (streamUsed limit i ≡ false → plainSize i ≤ limit) → fileSize limit i ≤ limit

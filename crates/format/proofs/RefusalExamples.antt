@@ -5,6 +5,7 @@ use mathlib.Core.Bool.{true, false}
 use mathlib.Core.List.{List, [], _∷_, map}
 use Prim.Native.Nat.{ℕ}
 use lib.IntN.{pos, negsuc}
+use lib.ListN.{replicate}
 use Rattle.leaves.specs.declared.image.BmpPixelFormat.the-variants.{Rgb24, Pal8}
 use Rattle.leaves.specs.Lists.{cat}
 use Rattle.leaves.specs.Options.{defaults}
@@ -16,7 +17,7 @@ use Rattle.format.specs.Input.{Input}
 use Rattle.format.specs.File.{streamOf, limitIn, budget, plainSize, boundOf}
 use Rattle.format.specs.Layout.{modeOf, tailIn, depthOf, tableEntries, headRest, headLen, rawLen, wantsRle}
 use Rattle.format.specs.Refusals.{fileTooLarge, bufferTooShort, streamOverBudget, givenMasksRows, checkRows, planRows, writeRows}
-use Rattle.format.proofs.ExampleInputs.{oneRow, call, under, withSettings, sevensWith, sevens}
+use Rattle.format.proofs.ExampleInputs.{oneRow, withMinimal, call, under, withSettings, sevensWith, sevens}
 
 -- a call into a buffer of `room` bytes from `offset` on, and its number: 0 where it is accepted
 pub record Answer : Type 0 where
@@ -27,6 +28,12 @@ pub record Answer : Type 0 where
 
 abbrev pub answer : Input → ℕ → ℕ → ℕ → Answer
 answer input room offset number = record { input = input; room = room; offset = offset; number = number }
+
+-- eight rows of one cell
+abbrev column : Input
+column =
+    call (record { format = Pal8; width = 1; height = 8; stride = 1; «has_palette» = true; «has_icc» = false; «has_linked_icc» = false })
+    (withMinimal false true) (replicate 8 7) [] [] []
 
 abbrev pub answers : List Answer
 answers =
@@ -48,6 +55,9 @@ answers =
     ∷ answer (under 60 (sevensWith false 5 5 5)) 0 0 14
     ∷ answer (under 60 (sevens 5 5 5)) 0 0 15
     ∷ answer (under 60 (sevens 5 5 5)) 73 0 16
+    -- the same of eight rows of one cell, where the raw bytes, 32, do not count: budget 3, bound 65
+    ∷ answer (under 60 column) 65 0 16
+    ∷ answer (under 60 column) 64 0 15
     -- the plain file's own bytes as the limit; one less
     ∷ answer (under 66 (sevensWith false 5 5 5)) 66 0 0
     ∷ answer (under 65 (sevensWith false 5 5 5)) 66 0 14
