@@ -1,6 +1,6 @@
 // Runs document 01's examples on the code and prints what comes out: M1 to M8 (row codes), M9 (samples),
 // M10 (row stride), M11 (masks), M12 (a file, with its bound) and the two lines after it; then, for each width of 0 to 32 bits, the sum of all 256 samples fitted
-// to it, and a checksum of the codes of all rows of 1 to 7 cells over the indices 0, 1 and 17.
+// to it, a checksum of the codes of all rows of 1 to 7 cells over the indices 0, 1 and 17, and 512 x 512 cells under a limit of 262,144 bytes.
 ghost use mathlib.Core.Path.{_≡_};
 ghost use Prim.Native.Nat.{_<_, _≤_};
 ghost use lib.ListN.{length};
@@ -217,6 +217,58 @@ fn file(width: u32, stride: usize, plane: &[u8]) {
     }
 }
 
+// 512 columns of shades that change every `step` cells, along a row and from row to row.
+fn surface(plane: &mut [u8], step: usize)
+    requires { ⌜ 0 < step ⌝ }
+    ensures { λ _. ⌜ length (now (plane .exit)) ≡ length (now (plane .entry)) ⌝ }
+{
+    let mut i = 0;
+    while i < plane.len() {
+        plane[i] = ((i % 512 + i / 512) / step % 256) as u8;
+        i += 1;
+    }
+}
+
+// Bound and bytes of 512 x 512 cells, with a full colour table, for a screen that takes 262,144 bytes; or
+// the refusals' numbers.
+fn limited(plane: &[u8], rle: bool, out: &mut [u8]) {
+    let src = EncodeSource {
+        format: BmpPixelFormat::Pal8,
+        width: 512,
+        height: 512,
+        stride: 512,
+        has_palette: true,
+        has_icc: false,
+        has_linked_icc: false,
+    };
+    let mut options = EncodeOptions::new();
+    options.rle = rle;
+    options.limit = 262144;
+    let none = [0u8; 0];
+    match encoded_size_bound(src, options, plane, &none, &none, &none) {
+        SizeBound::Bytes(n) => number(n as u64),
+        SizeBound::Refused(why) => number(why.number() as u64),
+    }
+    match encode_into(src, options, plane, &none, &none, &none, out, 0) {
+        Encoded::File(_, n) => number(n as u64),
+        Encoded::Refused(why) => number(why.number() as u64),
+    }
+}
+
+// Shades that change every four cells, whose plain file of 263,222 bytes is over the limit: with RLE and
+// without; and shades that change with every cell.
+fn panel() {
+    let mut cells = [0u8; 262144];
+    let mut space = [0u8; 264000];
+    let plane: &mut [u8] = &mut cells;
+    let out: &mut [u8] = &mut space;
+    surface(plane, 4);
+    limited(plane, true, out);
+    limited(plane, false, out);
+    surface(plane, 1);
+    limited(plane, true, out);
+}
+
 fn row_examples() {
     io::write_all(STDOUT_FILENO, b"M1");
     codes(&[5u8], false);
@@ -258,5 +310,7 @@ fn main() {
     io::write_all(STDOUT_FILENO, b"\nrows");
     all_rows(false);
     all_rows(true);
+    io::write_all(STDOUT_FILENO, b"\npanel");
+    panel();
     io::write_all(STDOUT_FILENO, b"\n");
 }
