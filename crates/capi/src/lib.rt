@@ -266,8 +266,8 @@ pub extern "C" fn bmp_encoded_size_bound_with<'a>(
         };
     };
     let src = source_of(source, format);
-    let asked = options_of(options, settings);
-    let answer = encoded_size_bound(src, asked, plane, palette, icc, linked_icc);
+    let chosen = options_of(options, settings);
+    let answer = encoded_size_bound(src, chosen, plane, palette, icc, linked_icc);
     bound_answer(answer)
 }
 
