@@ -1,3 +1,4 @@
 pub mod OptionLaws
 pub mod Pieces
+pub mod Signs
 pub mod Examples

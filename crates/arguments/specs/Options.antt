@@ -4,7 +4,7 @@ use mathlib.Core.List.{List, [], _∷_, map}
 use Prim.Native.Nat.{ℕ, _+_, _*_}
 use Prim.Native.String.{String}
 use lib.Dec.{eqb, ltb, leb}
-use lib.IntN.{ℤ}
+use lib.IntN.{ℤ, pos}
 use lib.ListN.{length, getD, drop}
 use Rattle.leaves.specs.declared.bitfields.BmpBitfields.{BmpBitfields}
 use Rattle.leaves.specs.declared.encoder.EncodeSource.{EncodeSource}
@@ -40,6 +40,8 @@ optionNames =
     ∷ "--rendering-intent"
     ∷ "--bitfields"
     ∷ "--calibrated-rgb"
+    ∷ "--limit"
+    ∷ "--pels"
     ∷ "--plane"
     ∷ "--csv"
     ∷ "--palette"
@@ -49,7 +51,7 @@ optionNames =
     ∷ "--read"
     ∷ [])
 
--- the number of the option that a word names before its =; 24 for any other word
+-- the number of the option that a word names before its =; 26 for any other word
 unfoldable pub optionNamed : List ℕ → ℕ
 optionNamed w = placeAmong optionNames (upTo 61 w)
 
@@ -132,7 +134,7 @@ formatNamed name =
 -- ---- what is not understood, by number
 
 -- 0 is understood, 1 no option, 2 no value, 3 no number of 32 bits, 4 no layout, 5 no masks, 6 no calibrated colour, 7 no stride, 8 a value
--- where none is taken, 9 a word behind --
+-- where none is taken, 9 a word behind --, 10 no limit, 11 no pair of resolutions
 unfoldable pub unless : Bool → ℕ → ℕ
 unless good fault = cond good 0 fault
 
@@ -144,14 +146,16 @@ areMasks list = areNumbers 5 0 list && leb (numberOf (itemAt (itemsOf 44 list) 0
 unfoldable pub faultOfName : ℕ → List ℕ → ℕ
 faultOfName option name = cond (leb (numbered "--plane") option && leb option (numbered "--read")) (unless (ltb 0 (length name)) 2) 1
 
--- of an option's value
+-- of an option's value; a limit that is too large and a resolution below 0 are refused with the picture
 unfoldable pub faultOf : ℕ → List ℕ → ℕ
 faultOf option value =
     cond (eqb option (numbered "--format")) (unless (isFormat value) 4)
     (cond (eqb option (numbered "--width") || (eqb option (numbered "--height") || eqb option (numbered "--rendering-intent"))) (unless (isNumber32 value) 3)
     (cond (eqb option (numbered "--stride")) (unless (isNumber value) 7)
     (cond (eqb option (numbered "--bitfields")) (unless (areMasks value) 5)
-    (cond (eqb option (numbered "--calibrated-rgb")) (unless (areNumbers 12 9 value) 6) (faultOfName option value)))))
+    (cond (eqb option (numbered "--calibrated-rgb")) (unless (areNumbers 12 9 value) 6)
+    (cond (eqb option (numbered "--limit")) (unless (isNumber value) 10)
+    (cond (eqb option (numbered "--pels")) (unless (areNumbers 2 2 value) 11) (faultOfName option value)))))))
 
 -- of an option that stands alone: it takes no value, and -- ends the command, which takes options only
 unfoldable pub faultAlone : ℕ → Bool → Bool → ℕ
@@ -180,10 +184,13 @@ firstFault ws = firstOf (optionsIn ws)
 
 -- ---- what is asked for
 
+-- an option's number, or the usual one where it is not given
+unfoldable pub numberAsked : ℕ → ℕ → List (List ℕ) → ℕ
+numberAsked option usual ws = cond (isGiven option ws) (numberOf (valueOf option ws)) usual
+
 -- where no stride is given, rows stand close
 unfoldable pub strideAsked : List (List ℕ) → ℕ → BmpPixelFormat → ℕ
-strideAsked ws width format =
-    cond (isGiven (numbered "--stride") ws) (numberOf (valueOf (numbered "--stride") ws)) (bytesPerPixel format * width)
+strideAsked ws width format = numberAsked (numbered "--stride") (bytesPerPixel format * width) ws
 
 unfoldable pub formatAsked : List (List ℕ) → BmpPixelFormat
 formatAsked ws = formatNamed (valueOf (numbered "--format") ws)
@@ -227,6 +234,10 @@ calibratedAsked list =
 unfoldable pub intentAsked : List (List ℕ) → ℕ
 intentAsked ws = cond (isGiven (numbered "--rendering-intent") ws) (number32 (valueOf (numbered "--rendering-intent") ws)) 4
 
+-- across for 0, down for 1; 72 dots an inch where none are given
+unfoldable pub pelsAsked : ℕ → List (List ℕ) → ℤ
+pelsAsked k ws = cond (isGiven (numbered "--pels") ws) (signed32 (itemAt (itemsOf 44 (valueOf (numbered "--pels") ws)) k)) (pos 2835)
+
 unfoldable pub optionsAsked : List (List ℕ) → EncodeOptions
 optionsAsked ws =
     record {
@@ -239,4 +250,7 @@ optionsAsked ws =
       «rendering_intent» = intentAsked ws;
       «has_calibrated_rgb» = isGiven (numbered "--calibrated-rgb") ws;
       «calibrated_rgb» = calibratedAsked (valueOf (numbered "--calibrated-rgb") ws);
+      limit = numberAsked (numbered "--limit") 4294967295 ws;
+      «x_pels_per_meter» = pelsAsked 0 ws;
+      «y_pels_per_meter» = pelsAsked 1 ws;
     }

@@ -5,7 +5,7 @@ ghost use Prim.Native.Nat.{_+_, _*_, _≤_, _<_};
 ghost use lib.ListN.{length, drop};
 ghost use Rattle.leaves.specs.Formats.{bytesPerPixel};
 ghost use Rattle.arguments.specs.Numbers.{number32, signed32};
-ghost use Rattle.arguments.specs.Options.{optionNamed, standsAlone, carriesValue, carried, isWhole, optionsIn, lastGiven, isGiven, valueIn, valueOf, unless, areMasks, faultOfName, faultOf, faultAlone, faultLast, faultAt, firstFault, strideAsked, formatAsked, hasPalette, sourceAsked, masksAsked, calibratedAsked, intentAsked, optionsAsked};
+ghost use Rattle.arguments.specs.Options.{optionNamed, standsAlone, carriesValue, carried, isWhole, optionsIn, lastGiven, isGiven, valueIn, valueOf, unless, areMasks, faultOfName, faultOf, faultAlone, faultLast, faultAt, firstFault, numberAsked, strideAsked, formatAsked, hasPalette, sourceAsked, masksAsked, calibratedAsked, intentAsked, pelsAsked, optionsAsked};
 ghost use Rattle.arguments.specs.Words.{upTo, itemsOf, itemAt, wordsOf};
 use crate::formats::format_named;
 use crate::formats::is_format;
@@ -29,6 +29,8 @@ use leaves::image::BmpPixelFormat;
 use leaves::options::CalibratedRgb;
 use leaves::options::EncodeOptions;
 use leaves::types::LCS_GM_IMAGES;
+use leaves::types::MAX_FILE;
+use leaves::types::PELS_PER_METER;
 
 // The options by number. The first ten stand alone, and each of the others has a value.
 pub const TOP_DOWN: usize = 0;
@@ -65,19 +67,23 @@ const BITFIELDS: usize = 15;
 
 const CALIBRATED_RGB: usize = 16;
 
-pub const PLANE: usize = 17;
+const LIMIT: usize = 17;
 
-pub const CSV: usize = 18;
+const PELS: usize = 18;
 
-pub const PALETTE: usize = 19;
+pub const PLANE: usize = 19;
 
-pub const ICC: usize = 20;
+pub const CSV: usize = 20;
 
-pub const LINKED_ICC: usize = 21;
+pub const PALETTE: usize = 21;
 
-pub const OUT: usize = 22;
+pub const ICC: usize = 22;
 
-pub const READ: usize = 23;
+pub const LINKED_ICC: usize = 23;
+
+pub const OUT: usize = 24;
+
+pub const READ: usize = 25;
 
 // Why an option is not understood.
 const UNDERSTOOD: usize = 0;
@@ -100,6 +106,10 @@ const TAKES_NO_VALUE: usize = 8;
 
 const WORD_BEHIND: usize = 9;
 
+const NO_LIMIT: usize = 10;
+
+const NO_PELS: usize = 11;
+
 // The word that starts at a place.
 pub fn word<'a>(words: &'a [u8], at: usize) -> &'a [u8]
     requires { ⌜ at ≤ length (now words) ⌝ }
@@ -114,8 +124,8 @@ fn option_named(word: &[u8]) -> usize
 {
     let names =
         b"--top-down,--minimal-palette,--no-rle,--no-embed-icc,--more-follows,--sample-palette,--help,-h,--version,--,\
-        --format,--width,--height,--stride,--rendering-intent,--bitfields,--calibrated-rgb,--plane,--csv,--palette,\
-        --icc,--linked-icc,--out,--read";
+        --format,--width,--height,--stride,--rendering-intent,--bitfields,--calibrated-rgb,--limit,--pels,--plane,\
+        --csv,--palette,--icc,--linked-icc,--out,--read";
     place_in(names, piece(word, 0, b'='), false)
 }
 
@@ -269,6 +279,12 @@ fn fault_of(option: usize, value: &[u8]) -> usize
     if option == CALIBRATED_RGB {
         return unless(are_numbers(value, 12, 9), NOT_CALIBRATED);
     }
+    if option == LIMIT {
+        return unless(is_number(value), NO_LIMIT);
+    }
+    if option == PELS {
+        return unless(are_numbers(value, 2, 2), NO_PELS);
+    }
     fault_of_name(option, value)
 }
 
@@ -339,14 +355,21 @@ fn row_bytes(width: u32, format: BmpPixelFormat) -> usize
     format.bytes_per_pixel() * width as usize
 }
 
+// An option's number, or the usual one where it is not given.
+fn number_asked(words: &[u8], option: usize, usual: u64) -> u64
+    ensures { λ r. ⌜ r ≡ numberAsked option usual (wordsOf (now (words .entry))) ⌝ }
+{
+    if is_given(words, option) {
+        return number(value_of(words, option));
+    }
+    usual
+}
+
 // Where no stride is given, rows stand close.
 fn stride(words: &[u8], width: u32, format: BmpPixelFormat) -> usize
     ensures { λ r. ⌜ r ≡ strideAsked (wordsOf (now (words .entry))) width format ⌝ }
 {
-    if is_given(words, STRIDE) {
-        return number(value_of(words, STRIDE)) as usize;
-    }
-    row_bytes(width, format)
+    number_asked(words, STRIDE, row_bytes(width, format) as u64) as usize
 }
 
 // The plane's layout; Pal8 where none is given.
@@ -444,6 +467,16 @@ fn intent(words: &[u8]) -> u32
     LCS_GM_IMAGES
 }
 
+// Pixels a metre, across for 0 and down for 1.
+fn pels(words: &[u8], k: usize) -> i32
+    ensures { λ r. ⌜ r ≡ pelsAsked k (wordsOf (now (words .entry))) ⌝ }
+{
+    if is_given(words, PELS) {
+        return signed32(item(value_of(words, PELS), k, b','));
+    }
+    PELS_PER_METER
+}
+
 pub fn options_asked(words: &[u8]) -> EncodeOptions
     ensures { λ r. ⌜ r ≡ optionsAsked (wordsOf (now (words .entry))) ⌝ }
 {
@@ -459,5 +492,8 @@ pub fn options_asked(words: &[u8]) -> EncodeOptions
         rendering_intent: intent(words),
         has_calibrated_rgb: is_given(words, CALIBRATED_RGB),
         calibrated_rgb,
+        limit: number_asked(words, LIMIT, MAX_FILE),
+        x_pels_per_meter: pels(words, 0),
+        y_pels_per_meter: pels(words, 1),
     }
 }

@@ -1,26 +1,21 @@
 use mathlib.Core.List.{List, [], _∷_}
-use mathlib.Core.Path.{_∙_, _≡_}
-use Prim.Native.Nat.{_^_, ℕ, _<_}
+use mathlib.Core.Path.{_≡_}
+use Prim.Native.Nat.{ℕ}
 use native.Mathlib.Omega.{arith}
-use lib.Signed.{mag}
 use lib.IntN.{ℤ}
 use mir.Val.{toZ, ofZ}
 use mir.Syntax.{w32}
-use mir.Facts.{toZ-ofZ}
 use Rattle.leaves.specs.declared.options.CalibratedRgb.{CalibratedRgb}
 use Rattle.arguments.specs.Options.{calibratedAsked}
 use Rattle.arguments.specs.Numbers.{number32, signed32}
 use Rattle.arguments.specs.Words.{itemsOf, itemAt}
+use Rattle.arguments.proofs.Signs.{read-back}
 use Rattle.arguments.proofs.options.calibrated_asked.Statement.{statement}
 use Rattle.arguments.proofs.options.calibrated_asked.Tie as tie
 
 module _ (list : List ℕ) where
   abbrev part : ℕ → List ℕ
   part = itemAt (itemsOf 44 list)
-
-  -- an endpoint, read back from its bits
-  read : (k : ℕ) (n : ℤ) → mag n < 2 ^ 31 → n ≡ signed32 (part k) → toZ w32 (ofZ w32 n) ≡ signed32 (part k)
-  read k n h e = toZ-ofZ {w = w32} {z = n} (record { sfits = h }) ∙ e
 
   made : (a b c d e f g h i : ℤ) (j k l : ℕ)
       → a ≡ signed32 (part 0) → b ≡ signed32 (part 1) → c ≡ signed32 (part 2) → d ≡ signed32 (part 3) → e ≡ signed32 (part 4) → f ≡ signed32 (part 5)
@@ -81,9 +76,9 @@ returns c =
     (toZ w32 (ofZ w32 (e1 .result))) (toZ w32 (ofZ w32 (e2 .result))) (toZ w32 (ofZ w32 (e3 .result)))
     (toZ w32 (ofZ w32 (e4 .result))) (toZ w32 (ofZ w32 (e5 .result))) (toZ w32 (ofZ w32 (e6 .result)))
     (toZ w32 (ofZ w32 (e7 .result))) (toZ w32 (ofZ w32 (e8 .result))) (c .before .before .mask .result) (c .before .mask2 .result) (c .mask3 .result)
-    (read list 0 (e0 .result) (e0 .ok) (e0 .ensures)) (read list 1 (e1 .result) (e1 .ok) (e1 .ensures)) (read list 2 (e2 .result) (e2 .ok) (e2 .ensures))
-    (read list 3 (e3 .result) (e3 .ok) (e3 .ensures)) (read list 4 (e4 .result) (e4 .ok) (e4 .ensures)) (read list 5 (e5 .result) (e5 .ok) (e5 .ensures))
-    (read list 6 (e6 .result) (e6 .ok) (e6 .ensures)) (read list 7 (e7 .result) (e7 .ok) (e7 .ensures)) (read list 8 (e8 .result) (e8 .ok) (e8 .ensures))
+    (read-back (e0 .result) (signed32 (part list 0)) (e0 .ok) (e0 .ensures)) (read-back (e1 .result) (signed32 (part list 1)) (e1 .ok) (e1 .ensures)) (read-back (e2 .result) (signed32 (part list 2)) (e2 .ok) (e2 .ensures))
+    (read-back (e3 .result) (signed32 (part list 3)) (e3 .ok) (e3 .ensures)) (read-back (e4 .result) (signed32 (part list 4)) (e4 .ok) (e4 .ensures)) (read-back (e5 .result) (signed32 (part list 5)) (e5 .ok) (e5 .ensures))
+    (read-back (e6 .result) (signed32 (part list 6)) (e6 .ok) (e6 .ensures)) (read-back (e7 .result) (signed32 (part list 7)) (e7 .ok) (e7 .ensures)) (read-back (e8 .result) (signed32 (part list 8)) (e8 .ok) (e8 .ensures))
     (c .before .before .mask .ensures) (c .before .mask2 .ensures) (c .mask3 .ensures)
 
 pub calibrated-asked-spec : {M : Type 1} → statement M

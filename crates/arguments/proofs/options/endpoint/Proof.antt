@@ -1,8 +1,8 @@
 use mathlib.Core.Path.{ap, _∙_}
 use native.Mathlib.Omega.{arith}
-use mir.Syntax.{w32}
-use mir.Facts.{toZ-ofZ}
 use Rattle.arguments.specs.Numbers.{signed32}
+use Rattle.arguments.specs.Words.{itemsOf, itemAt}
+use Rattle.arguments.proofs.Signs.{read-back}
 use Rattle.arguments.proofs.options.endpoint.Statement.{statement}
 use Rattle.arguments.proofs.options.endpoint.Tie as tie
 
@@ -13,7 +13,9 @@ signed32-requires : tie.Need-signed32-requires
 signed32-requires c κs = omega arith
 
 returns : tie.Need-returns
-returns c = toZ-ofZ {w = w32} {z = c .signed32 .result} (record { sfits = c .signed32 .ok }) ∙ c .signed32 .ensures ∙ ap signed32 (c .before .item .ensures)
+returns c =
+    let a = c .before .before .before .args in
+    read-back (c .signed32 .result) (signed32 (itemAt (itemsOf 44 (a .list .now)) (a .k))) (c .signed32 .ok) (c .signed32 .ensures ∙ ap signed32 (c .before .item .ensures))
 
 pub endpoint-spec : {M : Type 1} → statement M
 endpoint-spec = tie.close (tie.spec item-requires signed32-requires returns)

@@ -25,7 +25,10 @@ module _ (option : ℕ) (value : List ℕ) where
       ≡ cond (eqb option 10) (unless (isFormat value) 4)
       (cond (isCount option) (unless (isNumber32 value) 3)
       (cond (eqb option 13) (unless (isNumber value) 7)
-      (cond (eqb option 15) (unless (areMasks value) 5) (cond (eqb option 16) (unless (areNumbers 12 9 value) 6) (faultOfName option value)))))
+      (cond (eqb option 15) (unless (areMasks value) 5)
+      (cond (eqb option 16) (unless (areNumbers 12 9 value) 6)
+      (cond (eqb option 17) (unless (isNumber value) 10)
+      (cond (eqb option 18) (unless (areNumbers 2 2 value) 11) (faultOfName option value)))))))
   unfolding bytesOf optionNames optionNamed placeAmong alike upTo faultOf
   tested = refl
 
@@ -48,8 +51,16 @@ module _ (option : ℕ) (value : List ℕ) where
           calibrated : option ≡ 16 → unless (areNumbers 12 9 value) 6 ≡ faultOf option value
           calibrated e = rw (tested, ne-eqb option 10 n1, n2, ne-eqb option 13 n3, ne-eqb option 15 n4, eq-eqb option 16 e)
 
-          other : (option ≡ 16 → ⊥) → faultOfName option value ≡ faultOf option value
-          other n5 = rw (tested, ne-eqb option 10 n1, n2, ne-eqb option 13 n3, ne-eqb option 15 n4, ne-eqb option 16 n5)
+          module _ (n5 : option ≡ 16 → ⊥) where
+            a-limit : option ≡ 17 → unless (isNumber value) 10 ≡ faultOf option value
+            a-limit e = rw (tested, ne-eqb option 10 n1, n2, ne-eqb option 13 n3, ne-eqb option 15 n4, ne-eqb option 16 n5, eq-eqb option 17 e)
+
+            module _ (n6 : option ≡ 17 → ⊥) where
+              resolutions : option ≡ 18 → unless (areNumbers 2 2 value) 11 ≡ faultOf option value
+              resolutions e = rw (tested, ne-eqb option 10 n1, n2, ne-eqb option 13 n3, ne-eqb option 15 n4, ne-eqb option 16 n5, ne-eqb option 17 n6, eq-eqb option 18 e)
+
+              other : (option ≡ 18 → ⊥) → faultOfName option value ≡ faultOf option value
+              other n7 = rw (tested, ne-eqb option 10 n1, n2, ne-eqb option 13 n3, ne-eqb option 15 n4, ne-eqb option 16 n5, ne-eqb option 17 n6, ne-eqb option 18 n7)
 
 is-format-requires : tie.Need-is-format-requires
 is-format-requires c κs = omega arith
@@ -86,6 +97,18 @@ are-numbers-requires c κs = omega arith
 
 unless-requires-5 : tie.Need-unless-requires-5
 unless-requires-5 c κs = omega arith
+
+is-number-requires-2 : tie.Need-is-number-requires-2
+is-number-requires-2 c κs = omega arith
+
+unless-requires-6 : tie.Need-unless-requires-6
+unless-requires-6 c κs = omega arith
+
+are-numbers-requires-2 : tie.Need-are-numbers-requires-2
+are-numbers-requires-2 c κs = omega arith
+
+unless-requires-7 : tie.Need-unless-requires-7
+unless-requires-7 c κs = omega arith
 
 fault-of-name-requires : tie.Need-fault-of-name-requires
 fault-of-name-requires c κs = omega arith
@@ -126,9 +149,23 @@ returns-5 c =
 
 returns-6 : tie.Need-returns-6
 returns-6 c =
-    let a = c .before .before .before .before .before .before .before .before .before .args in
-    let count = count-is (a .option) (c .before .before .before .before .before .either2 .result) (c .before .before .before .before .before .before .either .result) (c .before .before .before .before .before .either2 .ensures) (c .before .before .before .before .before .before .either .ensures) in
-    c .fault-of-name .ensures ∙ other (a .option) (a .value .now) (c .before .before .before .before .before .before .before .if1 .left) (sym count ∙ c .before .before .before .before .if2 .left) (c .before .before .before .if3 .left) (c .before .before .if4 .left) (c .before .if5 .left)
+    let a = c .before .before .before .before .before .before .before .before .before .before .before .args in
+    let count = count-is (a .option) (c .before .before .before .before .before .before .before .either2 .result) (c .before .before .before .before .before .before .before .before .either .result) (c .before .before .before .before .before .before .before .either2 .ensures) (c .before .before .before .before .before .before .before .before .either .ensures) in
+    c .unless6 .ensures ∙ ap (λ (b : Bool). unless b 10) (c .before .is-number2 .ensures)
+    ∙ a-limit (a .option) (a .value .now) (c .before .before .before .before .before .before .before .before .before .if1 .left) (sym count ∙ c .before .before .before .before .before .before .if2 .left) (c .before .before .before .before .before .if3 .left) (c .before .before .before .before .if4 .left) (c .before .before .before .if5 .left) (c .before .before .if6 .taken)
+
+returns-7 : tie.Need-returns-7
+returns-7 c =
+    let a = c .before .before .before .before .before .before .before .before .before .before .before .before .args in
+    let count = count-is (a .option) (c .before .before .before .before .before .before .before .before .either2 .result) (c .before .before .before .before .before .before .before .before .before .either .result) (c .before .before .before .before .before .before .before .before .either2 .ensures) (c .before .before .before .before .before .before .before .before .before .either .ensures) in
+    c .unless7 .ensures ∙ ap (λ (b : Bool). unless b 11) (c .before .are-numbers2 .ensures)
+    ∙ resolutions (a .option) (a .value .now) (c .before .before .before .before .before .before .before .before .before .before .if1 .left) (sym count ∙ c .before .before .before .before .before .before .before .if2 .left) (c .before .before .before .before .before .before .if3 .left) (c .before .before .before .before .before .if4 .left) (c .before .before .before .before .if5 .left) (c .before .before .before .if6 .left) (c .before .before .if7 .taken)
+
+returns-8 : tie.Need-returns-8
+returns-8 c =
+    let a = c .before .before .before .before .before .before .before .before .before .before .before .args in
+    let count = count-is (a .option) (c .before .before .before .before .before .before .before .either2 .result) (c .before .before .before .before .before .before .before .before .either .result) (c .before .before .before .before .before .before .before .either2 .ensures) (c .before .before .before .before .before .before .before .before .either .ensures) in
+    c .fault-of-name .ensures ∙ other (a .option) (a .value .now) (c .before .before .before .before .before .before .before .before .before .if1 .left) (sym count ∙ c .before .before .before .before .before .before .if2 .left) (c .before .before .before .before .before .if3 .left) (c .before .before .before .before .if4 .left) (c .before .before .before .if5 .left) (c .before .before .if6 .left) (c .before .if7 .left)
 
 pub fault-of-spec : {M : Type 1} → statement M
 fault-of-spec =
@@ -151,5 +188,11 @@ fault-of-spec =
     are-numbers-requires
     unless-requires-5
     returns-5
+    is-number-requires-2
+    unless-requires-6
+    returns-6
+    are-numbers-requires-2
+    unless-requires-7
+    returns-7
     fault-of-name-requires
-    returns-6)
+    returns-8)

@@ -12,18 +12,18 @@ use Rattle.arguments.proofs.options.fault_of_name.Statement.{statement}
 use Rattle.arguments.proofs.options.fault_of_name.Tie as tie
 
 module _ (option : ℕ) (name : List ℕ) where
-  before : option < 17 → 1 ≡ faultOfName option name
+  before : option < 19 → 1 ≡ faultOfName option name
   unfolding faultOfName bytesOf optionNames optionNamed placeAmong alike upTo
-  before h = rw (lt-leb 17 option h)
+  before h = rw (lt-leb 19 option h)
 
-  module _ (h : 17 ≤ option) where
-    behind : 23 < option → 1 ≡ faultOfName option name
+  module _ (h : 19 ≤ option) where
+    behind : 25 < option → 1 ≡ faultOfName option name
     unfolding faultOfName bytesOf optionNames optionNamed placeAmong alike upTo
-    behind k = rw (le-leb 17 option h, lt-leb option 23 k)
+    behind k = rw (le-leb 19 option h, lt-leb option 25 k)
 
-    names : option ≤ 23 → unless (ltb 0 (length name)) 2 ≡ faultOfName option name
+    names : option ≤ 25 → unless (ltb 0 (length name)) 2 ≡ faultOfName option name
     unfolding faultOfName bytesOf optionNames optionNamed placeAmong alike upTo
-    names k = rw (le-leb 17 option h, le-leb option 23 k)
+    names k = rw (le-leb 19 option h, le-leb option 25 k)
 
 returns : tie.Need-returns
 returns c = before (c .before .before .args .option) (c .before .before .args .name .now) (c .if1 .taken)

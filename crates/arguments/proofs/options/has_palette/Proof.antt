@@ -9,7 +9,7 @@ use Rattle.arguments.specs.Words.{upTo, placeAmong, alike, wordsOf}
 use Rattle.arguments.proofs.options.has_palette.Statement.{statement}
 use Rattle.arguments.proofs.options.has_palette.Tie as tie
 
-one-of : (ws : List (List ℕ)) (a b : Bool) → a ≡ isGiven 19 ws → b ≡ isGiven 5 ws → (a || b) ≡ hasPalette ws
+one-of : (ws : List (List ℕ)) (a b : Bool) → a ≡ isGiven 21 ws → b ≡ isGiven 5 ws → (a || b) ≡ hasPalette ws
 unfolding hasPalette bytesOf optionNames optionNamed placeAmong alike upTo
 one-of ws a b e f = rw (e, f)
 

@@ -13,7 +13,7 @@ use Rattle.arguments.proofs.options.source_asked.Statement.{statement}
 use Rattle.arguments.proofs.options.source_asked.Tie as tie
 
 made : (ws : List (List ℕ)) (f : BmpPixelFormat) (w h s : ℕ) (p i l : Bool) → f ≡ formatAsked ws → w ≡ number32 (valueOf 11 ws) → h ≡ number32 (valueOf 12 ws)
-    → s ≡ strideAsked ws w f → p ≡ hasPalette ws → i ≡ isGiven 20 ws → l ≡ isGiven 21 ws
+    → s ≡ strideAsked ws w f → p ≡ hasPalette ws → i ≡ isGiven 22 ws → l ≡ isGiven 23 ws
     → _≡_ {A = EncodeSource} (record { format = f; width = w; height = h; stride = s; «has_palette» = p; «has_icc» = i; «has_linked_icc» = l }) (sourceAsked ws)
 unfolding sourceAsked bytesOf optionNames optionNamed placeAmong alike upTo
 made ws f w h s p i l ef ew eh es ep ei el = rw (es, ef, ew, eh, ep, ei, el)
