@@ -23,16 +23,16 @@ unfolding oneGiven
 one-more ws from i a b r p q e = rw (add-one i) (e ∙ rw (p, q))
 
 -- the tests of a command that reads
-pub read-joined : (ws : List (List ℕ)) (x y z behind writing csv : Bool) (a r : ℕ) → x ≡ oneGiven 0 6 ws → y ≡ oneGiven 10 8 ws → z ≡ oneGiven 19 4 ws → behind ≡ (y || z) → writing ≡ (x || behind)
-    → a ≡ firstFound 0 writing 9 → csv ≡ isGiven 18 ws → r ≡ firstFound a (not csv) 10 → r ≡ readFault ws
+pub read-joined : (ws : List (List ℕ)) (x y z behind writing csv : Bool) (a r : ℕ) → x ≡ oneGiven 0 6 ws → y ≡ oneGiven 10 10 ws → z ≡ oneGiven 21 4 ws → behind ≡ (y || z) → writing ≡ (x || behind)
+    → a ≡ firstFound 0 writing 9 → csv ≡ isGiven 20 ws → r ≡ firstFound a (not csv) 10 → r ≡ readFault ws
 unfolding readFault asksWriting bytesOf optionNames optionNamed placeAmong alike upTo
 read-joined ws x y z behind writing csv a r qx qy qz qb qw qa qc qr = rw (qr, qc, qa, qw, qb, qz, qy, qx)
 
-pub joint-reads : (ws : List (List ℕ)) → isGiven 23 ws ≡ true → readFault ws ≡ jointFault ws
+pub joint-reads : (ws : List (List ℕ)) → isGiven 25 ws ≡ true → readFault ws ≡ jointFault ws
 unfolding jointFault bytesOf optionNames optionNamed placeAmong alike upTo
 joint-reads ws e = rw e
 
-pub joint-writes : (ws : List (List ℕ)) → isGiven 23 ws ≡ false → writeFault ws ≡ jointFault ws
+pub joint-writes : (ws : List (List ℕ)) → isGiven 25 ws ≡ false → writeFault ws ≡ jointFault ws
 unfolding jointFault bytesOf optionNames optionNamed placeAmong alike upTo
 joint-writes ws e = rw e
 

@@ -46,7 +46,7 @@ pub same-line : {a b c d w x y z : List ℕ} (line : List ℕ) → a ≡ w → b
 same-line line e f g h = rw (e, f, g, h)
 
 -- what is said of a file, and of a refusal
-pub file-text : (ws : List (List ℕ)) (out name file : List ℕ) (format : EncodedBmpFormat) (bytes : ℕ) (e : Encoded) → e ≡ encoded.File format bytes → name ≡ valueOf 22 ws → file ≡ take bytes out
+pub file-text : (ws : List (List ℕ)) (out name file : List ℕ) (format : EncodedBmpFormat) (bytes : ℕ) (e : Encoded) → e ≡ encoded.File format bytes → name ≡ valueOf 24 ws → file ≡ take bytes out
     → filled name (writtenName format) (decimal (length file)) (decimal (cksum file)) writtenLine ≡ writtenText ws out e
 unfolding bytesOf optionNames optionNamed placeAmong alike upTo
 file-text ws out name file format bytes e eb en ef = rw (eb, en, ef)
@@ -142,11 +142,11 @@ module _ (ws : List (List ℕ)) (sheet palette icc linked cells : List ℕ) wher
 -- ---- the run
 
 module _ (ws : List (List ℕ)) (plane palette icc linked cells was later textWas textLater : List ℕ) (answer : CommandAnswer) where
-  pub sheet-runs : isGiven 18 ws ≡ true → SheetRun ws plane palette icc linked cells was later textWas textLater answer → Runs (isGiven 18 ws) ws plane palette icc linked cells was later textWas textLater answer
+  pub sheet-runs : isGiven 20 ws ≡ true → SheetRun ws plane palette icc linked cells was later textWas textLater answer → Runs (isGiven 20 ws) ws plane palette icc linked cells was later textWas textLater answer
   sheet-runs e r = subst (λ (b : Bool). Runs b ws plane palette icc linked cells was later textWas textLater answer) (sym e) r
 
-  pub plane-runs : (source : EncodeSource) → isGiven 18 ws ≡ false → source ≡ sourceAsked ws → Encodes ws (called source (optionsAsked ws) plane palette icc linked) was later textWas textLater answer
-      → Runs (isGiven 18 ws) ws plane palette icc linked cells was later textWas textLater answer
+  pub plane-runs : (source : EncodeSource) → isGiven 20 ws ≡ false → source ≡ sourceAsked ws → Encodes ws (called source (optionsAsked ws) plane palette icc linked) was later textWas textLater answer
+      → Runs (isGiven 20 ws) ws plane palette icc linked cells was later textWas textLater answer
   plane-runs source e f r =
       subst (λ (b : Bool). Runs b ws plane palette icc linked cells was later textWas textLater answer) (sym e)
       (subst (λ (s : EncodeSource). Encodes ws (called s (optionsAsked ws) plane palette icc linked) was later textWas textLater answer) f r)
@@ -171,7 +171,7 @@ module _ {ws : List (List ℕ)} {textWas textLater : List ℕ} {r : CommandAnswe
     pub not-run : (r .status ≡ 3 → ⊥) → Ran ws plane palette icc linked cells was was textWas textLater r
     not-run n = inl (record { status = λ e. n (status-is ∙ e); checked = checked; buffer = refl })
 
-    pub has-run : {chosen later textEnd : List ℕ} {answer : CommandAnswer} → r .status ≡ 3 → chosen ≡ paletteFor ws palette → Runs (isGiven 18 ws) ws plane chosen icc linked cells was later textLater textEnd answer
+    pub has-run : {chosen later textEnd : List ℕ} {answer : CommandAnswer} → r .status ≡ 3 → chosen ≡ paletteFor ws palette → Runs (isGiven 20 ws) ws plane chosen icc linked cells was later textLater textEnd answer
         → Ran ws plane palette icc linked cells was later textWas textEnd answer
     unfolding bytesOf optionNames optionNamed placeAmong alike upTo
     has-run {chosen} {later} {textEnd} {answer} e p done =
@@ -179,8 +179,8 @@ module _ {ws : List (List ℕ)} {textWas textLater : List ℕ} {r : CommandAnswe
         let same : textLater ≡ textWas = nothing-said (no-message ws go) (checked .message) in
         inr (
           go,
-          subst (λ (t : List ℕ). Runs (isGiven 18 ws) ws plane (paletteFor ws palette) icc linked cells was later t textEnd answer) same
-              (subst (λ (x : List ℕ). Runs (isGiven 18 ws) ws plane x icc linked cells was later textLater textEnd answer) p done),
+          subst (λ (t : List ℕ). Runs (isGiven 20 ws) ws plane (paletteFor ws palette) icc linked cells was later t textEnd answer) same
+              (subst (λ (x : List ℕ). Runs (isGiven 20 ws) ws plane x icc linked cells was later textLater textEnd answer) p done),
         )
 
 pub sample-chosen : (ws : List (List ℕ)) (palette : List ℕ) → isGiven 5 ws ≡ true → samplePalette ≡ paletteFor ws palette

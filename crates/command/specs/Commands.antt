@@ -25,6 +25,8 @@ faultLines =
     ∷ "@: '#' is no number from 0 to 1152921504606846975\n"
     ∷ "@ takes no value, and is given '#'\n"
     ∷ "@ is followed by '#': the command takes options only\n"
+    ∷ "@: '#' is no number of bytes from 0 to 4294967295\n"
+    ∷ "@: '#' is no pair X,Y of pixels a metre from 0 to 2147483647\n"
     ∷ [])
 
 -- the message of words that begin with an option that is not understood
@@ -123,6 +125,9 @@ helpLines =
     ∷ "  --linked-icc FILE       a linked profile's bytes, taken before an embedded one"
     ∷ "  --no-embed-icc          --icc is not written"
     ∷ "  --rendering-intent N    of a file with a profile [4]"
+    ∷ "  --limit BYTES           the most that the file may have, up to 4294967295 [4294967295]"
+    ∷ "  --pels X,Y              pixels a metre across and down: dots an inch times 10000 / 254, rounded, 2835 for 72"
+    ∷ "                          and 3780 for 96 [2835,2835]"
     ∷ "  --read FILE             a BMP file, whose cells go to OUT: an index, or red, green, blue and alpha each"
     ∷ "  --help, -h, --version"
     ∷ ""

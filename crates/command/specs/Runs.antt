@@ -58,12 +58,14 @@ causes =
     ∷ "masks are for Rgba, Rgb24, Bgra and Bgr24 alone"
     ∷ "the plane is shorter than stride times height"
     ∷ "the stride is below width times the bytes of a pixel"
-    ∷ "the file would be over 4294967295 bytes"
+    ∷ "the file would have more bytes than the limit"
     ∷ "the buffer is shorter than the file's bound"
-    ∷ "neither the stream nor the plain file fits in 4294967295 bytes"
+    ∷ "neither the stream nor the plain file is within the limit"
     ∷ "the head is one that the writer never writes"
     ∷ "a byte of header, masks, table, rows or profile lies outside the file"
     ∷ "the stream steps over a row's end, ends too early or uses a delta code"
+    ∷ "the limit is over 4294967295"
+    ∷ "a resolution is negative"
     ∷ [])
 
 -- where the size query passes: more bytes than the rows take, unless more may follow

@@ -73,7 +73,7 @@ fn write_fault(words: &[u8]) -> usize
 
 // Whether one of some options from a number on is given.
 fn one_given(words: &[u8], from: usize, count: usize) -> bool
-    requires { ⌜ from + count ≤ 24 ⌝ }
+    requires { ⌜ from + count ≤ 26 ⌝ }
     ensures { λ r. ⌜ r ≡ oneGiven from count (wordsOf (now (words .entry))) ⌝ }
 {
     let mut given = false;
@@ -91,7 +91,7 @@ fn read_fault(words: &[u8]) -> usize
 {
     let writing = either(
         one_given(words, TOP_DOWN, 6),
-        either(one_given(words, FORMAT, 8), one_given(words, PALETTE, 4)),
+        either(one_given(words, FORMAT, 10), one_given(words, PALETTE, 4)),
     );
     let a = first_found(0, writing, 9);
     first_found(a, !is_given(words, CSV), 10)
@@ -119,7 +119,9 @@ fn tell_fault(words: &[u8], at: usize, text: &mut [u8]) -> usize
         |@: '#' is no list of nine endpoints from -2147483648 to 2147483647 and three gammas from 0 to 4294967295\n\
         |@: '#' is no number from 0 to 1152921504606846975\n\
         |@ takes no value, and is given '#'\n\
-        |@ is followed by '#': the command takes options only\n";
+        |@ is followed by '#': the command takes options only\n\
+        |@: '#' is no number of bytes from 0 to 4294967295\n\
+        |@: '#' is no pair X,Y of pixels a metre from 0 to 2147483647\n";
     let line = item(lines, fault_at(words, at), b'|');
     tell(
         text,
@@ -179,6 +181,9 @@ understood or a file cannot be read or written; FILE is then as it was.
   --linked-icc FILE       a linked profile's bytes, taken before an embedded one
   --no-embed-icc          --icc is not written
   --rendering-intent N    of a file with a profile [4]
+  --limit BYTES           the most that the file may have, up to 4294967295 [4294967295]
+  --pels X,Y              pixels a metre across and down: dots an inch times 10000 / 254, rounded, 2835 for 72
+                          and 3780 for 96 [2835,2835]
   --read FILE             a BMP file, whose cells go to OUT: an index, or red, green, blue and alpha each
   --help, -h, --version
 

@@ -105,12 +105,14 @@ pub(crate) fn tell_refused(number: u32, text: &mut [u8]) -> usize
         |masks are for Rgba, Rgb24, Bgra and Bgr24 alone\
         |the plane is shorter than stride times height\
         |the stride is below width times the bytes of a pixel\
-        |the file would be over 4294967295 bytes\
+        |the file would have more bytes than the limit\
         |the buffer is shorter than the file's bound\
-        |neither the stream nor the plain file fits in 4294967295 bytes\
+        |neither the stream nor the plain file is within the limit\
         |the head is one that the writer never writes\
         |a byte of header, masks, table, rows or profile lies outside the file\
-        |the stream steps over a row's end, ends too early or uses a delta code";
+        |the stream steps over a row's end, ends too early or uses a delta code\
+        |the limit is over 4294967295\
+        |a resolution is negative";
     let a = in_decimal(number as u64);
     let digits = a.digits;
     let cause = item(causes, number as usize, b'|');

@@ -18,7 +18,7 @@ module _ (file : ℕ) (ws : List (List ℕ)) where
   unfolding fileNamed
   no-file h = rw (lt-ltb 6 file h)
 
-  skips : (r s a b : Bool) → r ≡ (eqb file 3 && s) → s ≡ (a || b) → a ≡ isGiven 3 ws → b ≡ isGiven 21 ws → r ≡ isSkipped file ws
+  skips : (r s a b : Bool) → r ≡ (eqb file 3 && s) → s ≡ (a || b) → a ≡ isGiven 3 ws → b ≡ isGiven 23 ws → r ≡ isSkipped file ws
   unfolding isSkipped bytesOf optionNames optionNamed placeAmong alike upTo
   skips r s a b e f g h = rw (e, f, g, h)
 
@@ -27,7 +27,7 @@ module _ (file : ℕ) (ws : List (List ℕ)) where
     unfolding fileNamed
     skipped e = rw (le-ltb 6 file h, e)
 
-    named : isSkipped file ws ≡ false → valueOf (17 + file) ws ≡ fileNamed file ws
+    named : isSkipped file ws ≡ false → valueOf (19 + file) ws ≡ fileNamed file ws
     unfolding fileNamed bytesOf optionNames optionNamed placeAmong alike upTo
     named e = rw (le-ltb 6 file h, e)
 

@@ -14,7 +14,7 @@ use Rattle.command.specs.Commands.{faultLines, faultTextAt}
 use Rattle.command.proofs.check.tell_fault.Statement.{statement}
 use Rattle.command.proofs.check.tell_fault.Tie as tie
 
-lines : itemsOf 124 (bytesOf "|@ is no option (--help lists the options)\n|@ has no value (--help lists the options)\n|@: '#' is no number from 0 to 4294967295\n|@: '#' is none of Rgba, Rgb24, Bgra, Bgr24, Rgb555, Rgb565, Pal8, Indexed4, Indexed2, Indexed1\n|@: '#' is no list D,R,G,B,A of a depth from 0 to 65535 and four masks from 0 to 4294967295\n|@: '#' is no list of nine endpoints from -2147483648 to 2147483647 and three gammas from 0 to 4294967295\n|@: '#' is no number from 0 to 1152921504606846975\n|@ takes no value, and is given '#'\n|@ is followed by '#': the command takes options only\n") ≡ faultLines
+lines : itemsOf 124 (bytesOf "|@ is no option (--help lists the options)\n|@ has no value (--help lists the options)\n|@: '#' is no number from 0 to 4294967295\n|@: '#' is none of Rgba, Rgb24, Bgra, Bgr24, Rgb555, Rgb565, Pal8, Indexed4, Indexed2, Indexed1\n|@: '#' is no list D,R,G,B,A of a depth from 0 to 65535 and four masks from 0 to 4294967295\n|@: '#' is no list of nine endpoints from -2147483648 to 2147483647 and three gammas from 0 to 4294967295\n|@: '#' is no number from 0 to 1152921504606846975\n|@ takes no value, and is given '#'\n|@ is followed by '#': the command takes options only\n|@: '#' is no number of bytes from 0 to 4294967295\n|@: '#' is no pair X,Y of pixels a metre from 0 to 2147483647\n") ≡ faultLines
 unfolding bytesOf itemsOf pieces onto faultLines
 lines = refl
 

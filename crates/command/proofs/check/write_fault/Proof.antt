@@ -14,11 +14,11 @@ use Rattle.command.proofs.check.write_fault.Tie as tie
 
 -- the tests one after the other
 joined : (ws : List (List ℕ)) (format : BmpPixelFormat) (plane csv w h s hs size indexed one two w2 three h2 four five six palette sample seven out : Bool) (a b d e f g i r : ℕ)
-    → plane ≡ isGiven 17 ws → csv ≡ isGiven 18 ws → w ≡ isGiven 11 ws → h ≡ isGiven 12 ws → s ≡ isGiven 13 ws → hs ≡ (h || s)
+    → plane ≡ isGiven 19 ws → csv ≡ isGiven 20 ws → w ≡ isGiven 11 ws → h ≡ isGiven 12 ws → s ≡ isGiven 13 ws → hs ≡ (h || s)
     → size ≡ (w || hs) → format ≡ formatAsked ws → indexed ≡ isIndexed format → one ≡ (plane || csv) → a ≡ firstFound 0 (not one) 1 → two ≡ (plane && csv)
     → b ≡ firstFound a two 2 → w2 ≡ isGiven 11 ws → three ≡ (plane && not w2) → d ≡ firstFound b three 3 → h2 ≡ isGiven 12 ws → four ≡ (plane && not h2)
-    → e ≡ firstFound d four 4 → five ≡ (csv && size) → f ≡ firstFound e five 5 → six ≡ (csv && not indexed) → g ≡ firstFound f six 6 → palette ≡ isGiven 19 ws
-    → sample ≡ isGiven 5 ws → seven ≡ (palette && sample) → i ≡ firstFound g seven 7 → out ≡ isGiven 22 ws → r ≡ firstFound i (not out) 8
+    → e ≡ firstFound d four 4 → five ≡ (csv && size) → f ≡ firstFound e five 5 → six ≡ (csv && not indexed) → g ≡ firstFound f six 6 → palette ≡ isGiven 21 ws
+    → sample ≡ isGiven 5 ws → seven ≡ (palette && sample) → i ≡ firstFound g seven 7 → out ≡ isGiven 24 ws → r ≡ firstFound i (not out) 8
     → r ≡ writeFault ws
 unfolding writeFault bytesOf optionNames optionNamed placeAmong alike upTo
 joined ws format plane csv w h s hs size indexed one two w2 three h2 four five six palette sample seven out a b d e f g i r qplane qcsv qw qh qs qhs qsize qformat qindexed qone qa qtwo qb qw2 qthree qd qh2 qfour qe qfive qf qsix qg qpalette qsample qseven qi qout qr =

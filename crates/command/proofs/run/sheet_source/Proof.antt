@@ -13,7 +13,7 @@ use Rattle.command.proofs.run.sheet_source.Statement.{statement}
 use Rattle.command.proofs.run.sheet_source.Tie as tie
 
 made : (ws : List (List ℕ)) (width height : ℕ) (f : BmpPixelFormat) (w h : ℕ) (p i l : Bool) → f ≡ formatAsked ws → w ≡ min width 0xFFFFFFFF → h ≡ min height 0xFFFFFFFF
-    → p ≡ hasPalette ws → i ≡ isGiven 20 ws → l ≡ isGiven 21 ws
+    → p ≡ hasPalette ws → i ≡ isGiven 22 ws → l ≡ isGiven 23 ws
     → _≡_ {A = EncodeSource} (record { format = f; width = w; height = h; stride = width; «has_palette» = p; «has_icc» = i; «has_linked_icc» = l }) (sheetSource ws width height)
 unfolding sheetSource bytesOf optionNames optionNamed placeAmong alike upTo
 made ws width height f w h p i l ef ew eh ep ei el = rw (ef, ew, eh, ep, ei, el)
