@@ -23,8 +23,8 @@ NOBODY = 65534
 TIMEOUT = 120
 
 OPTIONS = """--plane --csv --width --height --stride --format --palette --sample-palette --icc --linked-icc --no-embed-icc
---rendering-intent --bitfields --calibrated-rgb --top-down --minimal-palette --no-rle --more-follows --out --read
---help --version""".split()
+--rendering-intent --bitfields --calibrated-rgb --limit --pels --top-down --minimal-palette --no-rle --more-follows --out
+--read --help --version""".split()
 FORMATS = "Rgba Rgb24 Bgra Bgr24 Rgb555 Rgb565 Pal8 Indexed4 Indexed2 Indexed1".split()
 MOST = {"Pal8": 255, "Indexed4": 15, "Indexed2": 3, "Indexed1": 1}
 
@@ -260,6 +260,12 @@ class Words(Case):
              "and four masks from 0 to 4294967295"),
             (["--calibrated-rgb", "x"], "--calibrated-rgb: 'x' is no list of nine endpoints from -2147483648 to 2147483647 "
              "and three gammas from 0 to 4294967295"),
+            *((words, f"--limit: '{value}' is no number of bytes from 0 to 4294967295") for words, value in (
+                (["--limit", "64k"], "64k"), (["--limit=-1"], "-1"), (["--limit", "1152921504606846976"], "1152921504606846976"))),
+            *((["--pels", value], f"--pels: '{value}' is no pair X,Y of pixels a metre from 0 to 2147483647") for value in (
+                "3780", "3780,", "1,2,3", "3780;3780", "2147483648,1", "1,-2147483649")),
+            (["--limit"], "--limit has no value (--help lists the options)"),
+            (["--pels"], "--pels has no value (--help lists the options)"),
             (["--top-down=no"], "--top-down takes no value, and is given 'no'"),
             (["--", "x"], "-- is followed by 'x': the command takes options only"),
             (["--csv", "back.csv", "--read"], "--read has no value (--help lists the options)"),
@@ -313,6 +319,17 @@ class Words(Case):
             (11, ("--plane", "plane", "--palette", "palette", "--bitfields", "16,0xF800,0x07E0,0x001F,0") + size + out),
             (12, ("--plane", "plane", "--palette", "palette", "--width", "8", "--height", "4") + out),
             (13, ("--plane", "plane", "--palette", "palette", "--stride", "7", "--more-follows") + size + out),
+            (14, self.words + ("--limit", str(len(self.file) - 1)) + out),
+            (14, self.words + ("--limit=0",) + out),
+            (16, self.words[:-1] + ("--limit", str(len(self.file) - 1)) + out),
+            (20, self.words + ("--limit", "4294967296") + out),
+            (20, self.words + ("--limit", "0xFFFFFFFFFFFFFFF", "--pels", "-1,-1") + out),
+            (21, self.words + ("--pels=-1,0",) + out),
+            (21, self.words + ("--pels", "2147483647,-2147483648", "--limit", "0") + out),
+            # Both come directly after 2.
+            (2, ("--plane", "plane", "--width", "2147483648", "--height", "3", "--limit", "4294967296") + out),
+            (20, ("--plane", "plane", "--limit", "4294967296") + size + out),
+            (21, ("--plane", "plane", "--pels", "0,-1") + size + out),
         ):
             with self.subTest(number=number, words=words):
                 self.unchanged(1, f"refused, {number}: {REFUSALS[number]}", *words)
@@ -325,8 +342,8 @@ class Words(Case):
         with open(os.path.join(HERE, "../crates/command/specs/Runs.antt"), encoding="utf-8") as file:
             listed = re.search(r"^causes =\n(.*?)\[\]\)", file.read(), re.MULTILINE | re.DOTALL).group(1)
         causes = dict(enumerate(re.findall(r'"(.*)"', listed)))
-        self.assertEqual({number: causes[number] for number in range(1, 20)}, {number: REFUSALS[number] for number in range(1, 20)})
-        self.assertEqual(sorted(REFUSALS), list(range(20)) + [255])
+        self.assertEqual({number: causes[number] for number in range(1, 22)}, {number: REFUSALS[number] for number in range(1, 22)})
+        self.assertEqual(sorted(REFUSALS), list(range(22)) + [255])
 
     def test_a_shell_sees_a_refusal(self):
         for words, status, printed in (("", 1, b""), ("--palette palette", 0, b"yes\n"), ("--palette none", 2, b"")):
@@ -428,6 +445,32 @@ class Pictures(Case):
         gauges = self.done(*picture, "--calibrated-rgb", "1,-2,3,4,5,-2147483648,2147483647,8,9,0x10,0xFFFFFFFF,12")
         self.assertEqual((gauges[14], gauges[74:82], gauges[114:118]), (108, little(1) + little(2 ** 32 - 2), b"\xff" * 4))
         self.assertEqual(self.done(*picture, "--icc", "profile", "--no-embed-icc"), plain)
+
+    def test_the_limit(self):
+        for most in (str(len(self.file)), "0xFFFFFFFF"):
+            with self.subTest(most):
+                self.assertEqual(self.done(*self.words, "--limit", most), self.file)
+        # The plain file of this picture has 66 bytes.
+        self.write("sevens", b"\7" * 5)
+        words = ("--plane", "sevens", "--width", "5", "--height", "1", "--palette", "empty", "--minimal-palette")
+        for most in ("62", "65", "66"):
+            with self.subTest(most):
+                self.assertEqual(self.done(*words, "--limit", most), FIVE)
+        os.remove(self.path("out.bmp"))
+        self.unchanged(1, f"refused, 16: {REFUSALS[16]}", *words, "--limit", "61", "--out", "out.bmp")
+
+    def test_pixels_a_metre(self):
+        self.write("cells.csv", "1,2\n3,4\n")
+        picture = ("--plane", "plane", "--width", "4", "--height", "2", "--format", "rgb24")
+        for words in (self.words, self.words + ("--top-down",), ("--csv", "cells.csv", "--sample-palette"), picture,
+                      picture + ("--bitfields", "16,0xF800,0x7E0,0x1F,0"), picture + ("--icc", "profile"),
+                      picture + ("--calibrated-rgb", "1,2,3,4,5,6,7,8,9,10,11,12")):
+            usual = self.done(*words)
+            self.assertEqual(usual[38:46], little(2835) * 2, words)
+            for across, down in ((1, 2), (3780, 0), (0, 2147483647)):
+                with self.subTest(words, across=across):
+                    content = self.done(*words, "--pels", f"{across},{down}")
+                    self.assertEqual(content, usual[:38] + little(across) + little(down) + usual[46:])
 
     def test_a_profile_that_is_not_written_is_not_read(self):
         picture = ("--plane", "plane", "--width", "4", "--height", "2", "--format", "rgb24")
@@ -1007,7 +1050,7 @@ class ReadingBack(Case):
     def test_what_does_not_go_with_it(self):
         self.write("in.bmp", FIVE)
         values = {"--width": "8", "--height": "3", "--stride": "8", "--format": "Pal8", "--rendering-intent": "4",
-                  "--bitfields": "16,0,0,0,0", "--calibrated-rgb": ",".join("0" * 12)}
+                  "--bitfields": "16,0,0,0,0", "--calibrated-rgb": ",".join("0" * 12), "--limit": "9", "--pels": "1,2"}
         alone = {"--top-down", "--minimal-palette", "--no-rle", "--no-embed-icc", "--more-follows", "--sample-palette"}
         for option in set(OPTIONS) - {"--read", "--csv", "--help", "--version"}:
             with self.subTest(option):
