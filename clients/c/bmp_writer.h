@@ -49,7 +49,8 @@ enum bmp_written_format {
     BMP_WRITTEN_ALPHA_BITFIELDS = 11
 };
 
-/* Why a call is refused; the first that applies is answered, 255 before all others. `bmp_refusal_text` has the words. */
+/* Why a call is refused; the first that applies is answered, 255 before all others, 20 and 21 between 2 and 3.
+ * `bmp_refusal_text` has the words. */
 enum bmp_refusal {
     BMP_OK = 0,
     BMP_ZERO_DIMENSION = 1,      /* width or height is 0 */
@@ -65,14 +66,16 @@ enum bmp_refusal {
     BMP_MASK_SOURCE = 11,        /* masks: source is not RGBA, RGB24, BGRA or BGR24 */
     BMP_PLANE_TOO_SHORT = 12,    /* plane length below stride x height */
     BMP_STRIDE_TOO_SHORT = 13,   /* stride below width x bytes of a pixel */
-    BMP_FILE_TOO_LARGE = 14,     /* no RLE planned, and the file is over 4,294,967,295 bytes */
+    BMP_FILE_TOO_LARGE = 14,     /* no RLE planned, and the file is over the limit */
     BMP_BUFFER_TOO_SHORT = 15,   /* writing: offset past the end, or fewer than bound bytes after it; reading: a
                                   * lent buffer is shorter than what goes there */
-    BMP_STREAM_OVER_BUDGET = 16, /* writing: RLE planned, plain file too large, stream not under budget */
+    BMP_STREAM_OVER_BUDGET = 16, /* writing: RLE planned, plain file over the limit, stream not under budget */
     BMP_NEVER_WRITTEN = 17,      /* reading: mark, header size, width, height, depth, compression, colour count or
                                   * masks that are never written */
     BMP_OUTSIDE_FILE = 18,       /* reading: a byte of header, masks, table, plain rows or profile outside the file */
     BMP_STREAM_FAULT = 19,       /* reading: a step over a row's end, a row ended early, a delta code, missing cells */
+    BMP_LIMIT_TOO_LARGE = 20,    /* the limit is over 4,294,967,295 */
+    BMP_NEGATIVE_RESOLUTION = 21, /* a resolution is negative */
     BMP_UNKNOWN_FORMAT = 255     /* `format` is none of those listed; this interface's own number */
 };
 
@@ -107,6 +110,27 @@ static inline bmp_options bmp_options_default(void) {
     return options;
 }
 #define BMP_OPTIONS_DEFAULT (bmp_options_default())
+#endif
+
+/* 16 bytes. What the screen that shows the file asks for. BMP_SETTINGS_DEFAULT has the defaults in brackets. */
+typedef struct {
+    uint64_t limit;           /* bytes that a file may have, at most what its size field can say [4,294,967,295] */
+    int32_t x_pels_per_meter; /* biXPelsPerMeter, cells in a metre across, not negative [2835, 72 to the inch] */
+    int32_t y_pels_per_meter; /* biYPelsPerMeter, cells in a metre down, not negative [2835] */
+} bmp_settings;
+
+#define BMP_SETTINGS_STATIC { 4294967295u, 2835, 2835 }
+
+#if !defined(__cplusplus)
+#define BMP_SETTINGS_DEFAULT ((bmp_settings)BMP_SETTINGS_STATIC)
+#elif __cplusplus >= 201103L
+#define BMP_SETTINGS_DEFAULT (bmp_settings BMP_SETTINGS_STATIC)
+#else
+static inline bmp_settings bmp_settings_default(void) {
+    bmp_settings settings = BMP_SETTINGS_STATIC;
+    return settings;
+}
+#define BMP_SETTINGS_DEFAULT (bmp_settings_default())
 #endif
 
 /* 24 bytes. */
@@ -171,6 +195,10 @@ BMP_PLACE(bmp_options, rendering_intent, 24);
 BMP_PLACE(bmp_options, endpoints, 28);
 BMP_PLACE(bmp_options, gamma, 64);
 BMP_BYTES(bmp_options, 76);
+BMP_PLACE(bmp_settings, limit, 0);
+BMP_PLACE(bmp_settings, x_pels_per_meter, 8);
+BMP_PLACE(bmp_settings, y_pels_per_meter, 12);
+BMP_BYTES(bmp_settings, 16);
 BMP_PLACE(bmp_source, format, 0);
 BMP_PLACE(bmp_source, width, 4);
 BMP_PLACE(bmp_source, height, 8);
@@ -215,6 +243,18 @@ bmp_answer bmp_encoded_size_bound(bmp_source source, bmp_options options, const 
                                   const uint8_t *palette, size_t palette_len, const uint8_t *icc, size_t icc_len,
                                   const uint8_t *linked_icc, size_t linked_icc_len);
 
+/* The same two with the settings of a screen; those above have BMP_SETTINGS_DEFAULT. No file is longer than the limit: a
+ * plain file that would be is refused, or written as a stream where RLE is planned and the stream fits. */
+bmp_answer bmp_encode_into_with(bmp_source source, bmp_options options, bmp_settings settings, const uint8_t *plane,
+                                size_t plane_len, const uint8_t *palette, size_t palette_len, const uint8_t *icc,
+                                size_t icc_len, const uint8_t *linked_icc, size_t linked_icc_len, uint8_t *out,
+                                size_t out_len, size_t offset);
+
+bmp_answer bmp_encoded_size_bound_with(bmp_source source, bmp_options options, bmp_settings settings,
+                                       const uint8_t *plane, size_t plane_len, const uint8_t *palette,
+                                       size_t palette_len, const uint8_t *icc, size_t icc_len,
+                                       const uint8_t *linked_icc, size_t linked_icc_len);
+
 /* Reads a file back. `head` gets the first 14 bytes and the header; `table` four bytes an entry, as filed: blue, green,
  * red, 0; `cells` the cells row by row from the top: up to depth 8 an index, above it four numbers, red, green, blue
  * and alpha, as stored. Alpha is 0 but for compression 6, and a channel whose mask is 0 is 0. Values past those filled
@@ -246,12 +286,14 @@ static inline const char *bmp_refusal_text(uint32_t number) {
     case BMP_MASK_SOURCE: return "masks are for Rgba, Rgb24, Bgra and Bgr24 alone";
     case BMP_PLANE_TOO_SHORT: return "the plane is shorter than stride times height";
     case BMP_STRIDE_TOO_SHORT: return "the stride is below width times the bytes of a pixel";
-    case BMP_FILE_TOO_LARGE: return "the file would be over 4294967295 bytes";
+    case BMP_FILE_TOO_LARGE: return "the file would be over the limit";
     case BMP_BUFFER_TOO_SHORT: return "the buffer is shorter than the file's bound";
-    case BMP_STREAM_OVER_BUDGET: return "neither the stream nor the plain file fits in 4294967295 bytes";
+    case BMP_STREAM_OVER_BUDGET: return "neither the stream nor the plain file fits in the limit";
     case BMP_NEVER_WRITTEN: return "the head is one that the writer never writes";
     case BMP_OUTSIDE_FILE: return "a byte of header, masks, table, rows or profile lies outside the file";
     case BMP_STREAM_FAULT: return "the stream steps over a row's end, ends too early or uses a delta code";
+    case BMP_LIMIT_TOO_LARGE: return "the limit is over 4294967295 bytes";
+    case BMP_NEGATIVE_RESOLUTION: return "a resolution is negative";
     case BMP_UNKNOWN_FORMAT: return "the format's number is none of those listed";
     default: return "unknown refusal number";
     }

@@ -1,5 +1,5 @@
 /* Tests of the C interface: run by clients/test.sh. M12's file, which mask is which, the texts, the uses of the
- * defaults, and files read back. The header's layout is checked by compiling it. */
+ * defaults, files read back, and the settings of a screen. The header's layout is checked by compiling it. */
 #include "bmp_writer.h"
 #undef NDEBUG /* the assertions are the test */
 #include <assert.h>
@@ -47,7 +47,7 @@ static void masks(void) {
 static void texts(void) {
     const char *unknown = "unknown refusal number";
     for (uint32_t number = 0; number < 300; number++) {
-        bool listed = number <= 19 || number == 255;
+        bool listed = number <= 21 || number == 255;
         assert((strcmp(bmp_refusal_text(number), unknown) != 0) == listed);
         for (uint32_t other = 0; other < number && listed; other++)
             assert(strcmp(bmp_refusal_text(number), bmp_refusal_text(other)) != 0);
@@ -55,6 +55,8 @@ static void texts(void) {
     assert(strcmp(bmp_refusal_text(UINT32_MAX), unknown) == 0);
     assert(strcmp(bmp_refusal_text(BMP_OK), "not refused") == 0);
     assert(strcmp(bmp_refusal_text(BMP_BUFFER_TOO_SHORT), "the buffer is shorter than the file's bound") == 0);
+    assert(strcmp(bmp_refusal_text(BMP_LIMIT_TOO_LARGE), "the limit is over 4294967295 bytes") == 0);
+    assert(strcmp(bmp_refusal_text(BMP_NEGATIVE_RESOLUTION), "a resolution is negative") == 0);
     assert(strcmp(bmp_refusal_text(BMP_UNKNOWN_FORMAT), "the format's number is none of those listed") == 0);
 }
 
@@ -66,6 +68,7 @@ static void format(void) {
 }
 
 static const bmp_options at_start = BMP_OPTIONS_STATIC;
+static const bmp_settings of_a_screen = BMP_SETTINGS_STATIC;
 
 /* The struct has no bytes between its fields, so that bytes can be compared. */
 static bool is_default(const bmp_options *options) {
@@ -87,6 +90,10 @@ static void defaults(void) {
     cleared.embed_icc = true;
     cleared.rendering_intent = 4;
     assert(is_default(&cleared));
+    bmp_settings settings = { 0, -1, -1 };
+    settings = BMP_SETTINGS_DEFAULT;
+    assert(memcmp(&settings, &of_a_screen, sizeof settings) == 0);
+    assert(settings.limit == 4294967295 && settings.x_pels_per_meter == 2835 && settings.y_pels_per_meter == 2835);
 }
 
 /* Three lent buffers, each between two values that are not lent. */
@@ -233,6 +240,138 @@ static void huge(void) {
     refused(BMP_BUFFER_TOO_SHORT, bytes, sizeof bytes, 138, 1024, 16);
 }
 
+/* A wall panel's surface, and what a call may fill. */
+enum { SIDE = 512, CELLS = SIDE * SIDE, HEAD = 1078, ROOM = HEAD + CELLS + 2 * SIDE + 2 };
+static uint8_t panel[CELLS], out[ROOM], kept[ROOM], with_defaults[ROOM];
+static uint32_t shown[CELLS];
+
+/* Both calls on the panel's bytes. A refusal is answered alone and changes no byte; only 16 is not the size query's. No
+ * file is over the limit or the bound, and no byte behind it changes. */
+static bmp_answer encoded(bmp_source source, bmp_options options, bmp_settings settings, size_t palette_len) {
+    const uint8_t palette[4] = { 1, 2, 3, 4 };
+    memset(out, 0xAA, sizeof out);
+    memset(kept, 0xAA, sizeof kept);
+    bmp_answer bound = bmp_encoded_size_bound_with(source, options, settings, panel, sizeof panel, palette, palette_len,
+                                                   NULL, 0, NULL, 0);
+    bmp_answer answer = bmp_encode_into_with(source, options, settings, panel, sizeof panel, palette, palette_len, NULL,
+                                             0, NULL, 0, out, sizeof out, 0);
+    bool planned = answer.refusal == BMP_OK || answer.refusal == BMP_STREAM_OVER_BUDGET;
+    assert(bound.refusal == (planned ? BMP_OK : answer.refusal) && (bound.bytes != 0) == planned && bound.format == 0);
+    assert(answer.bytes <= bound.bytes && answer.bytes <= settings.limit);
+    assert((answer.bytes != 0) == (answer.refusal == BMP_OK) && (answer.refusal == BMP_OK || answer.format == 0));
+    assert(memcmp(out + answer.bytes, kept, sizeof out - answer.bytes) == 0);
+    return answer;
+}
+
+static uint32_t number_of(bmp_source source, uint64_t limit, int32_t x, int32_t y) {
+    const bmp_settings settings = { limit, x, y };
+    return encoded(source, BMP_OPTIONS_DEFAULT, settings, 4).refusal;
+}
+
+/* Cells in runs of eight, or none equal to the next. */
+static void paint(bool runs) {
+    for (int y = 0; y < SIDE; y++)
+        for (int x = 0; x < SIDE; x++) panel[y * SIDE + x] = (uint8_t)(runs ? x / 8 + y / 8 : 7 * x + y);
+}
+
+/* The file in `out` shows the panel's cells. */
+static void shows_panel(bmp_answer answer) {
+    uint8_t head[54], table[1024];
+    memset(shown, 0xAA, sizeof shown);
+    assert(bmp_read(out, answer.bytes, head, 54, table, 1024, shown, CELLS).refusal == BMP_OK);
+    for (int k = 0; k < CELLS; k++) assert(shown[k] == panel[k]);
+}
+
+/* The panel takes no file over 262,144 bytes, and the plain one has 1,078 more. The stream is used as long as it fits, to
+ * the byte; one that does not fit is 16, and without RLE the answer is 14. */
+static void limits(void) {
+    const bmp_source source = { BMP_PAL8, SIDE, SIDE, true, false, false, SIDE };
+    bmp_options plain = BMP_OPTIONS_DEFAULT;
+    plain.rle = false;
+    bmp_settings settings = { CELLS, 2835, 2835 };
+    paint(true);
+    bmp_answer answer = encoded(source, BMP_OPTIONS_DEFAULT, settings, 4);
+    assert(answer.refusal == BMP_OK && answer.format == BMP_WRITTEN_RLE8 && answer.bytes <= 262144);
+    shows_panel(answer);
+    const uint64_t bytes = answer.bytes;
+    const uint64_t refused[] = { 0, 1, HEAD - 1, HEAD, HEAD + 1, bytes - 1 };
+    for (int k = 0; k < 6; k++) assert(number_of(source, refused[k], 2835, 2835) == BMP_STREAM_OVER_BUDGET);
+    const uint64_t accepted[] = { bytes, bytes + 1, HEAD + CELLS - 1, HEAD + CELLS, 4294967295 };
+    for (int k = 0; k < 5; k++) {
+        settings.limit = accepted[k];
+        answer = encoded(source, BMP_OPTIONS_DEFAULT, settings, 4);
+        assert(answer.bytes == bytes && answer.format == BMP_WRITTEN_RLE8);
+    }
+    const uint64_t short_of_plain[] = { 0, HEAD - 1, HEAD, CELLS, HEAD + CELLS - 1 };
+    for (int k = 0; k < 5; k++) {
+        settings.limit = short_of_plain[k];
+        assert(encoded(source, plain, settings, 4).refusal == BMP_FILE_TOO_LARGE);
+    }
+    settings.limit = HEAD + CELLS;
+    answer = encoded(source, plain, settings, 4);
+    assert(answer.bytes == HEAD + CELLS && answer.format == BMP_WRITTEN_INDEXED8);
+    shows_panel(answer);
+
+    paint(false);
+    assert(number_of(source, CELLS, 2835, 2835) == BMP_STREAM_OVER_BUDGET);
+    assert(number_of(source, HEAD + CELLS - 1, 2835, 2835) == BMP_STREAM_OVER_BUDGET);
+    answer = encoded(source, BMP_OPTIONS_DEFAULT, settings, 4);
+    assert(answer.bytes == HEAD + CELLS && answer.format == BMP_WRITTEN_INDEXED8);
+    shows_panel(answer);
+}
+
+/* 255, 1 and 2 stand before the settings' own numbers, and 3, 4, 12 and 14 behind them. */
+static void settings_refused(void) {
+    const bmp_source good = { BMP_PAL8, SIDE, SIDE, true, false, false, SIDE };
+    const uint64_t most = 4294967295, over[3] = { 4294967296, 4294967297, UINT64_MAX };
+    assert(number_of(good, most, INT32_MAX, 0) == BMP_OK && number_of(good, most, 0, INT32_MAX) == BMP_OK);
+    for (int k = 0; k < 3; k++) {
+        assert(number_of(good, over[k], 2835, 2835) == BMP_LIMIT_TOO_LARGE);
+        assert(number_of(good, over[k], -1, INT32_MIN) == BMP_LIMIT_TOO_LARGE);
+    }
+    assert(number_of(good, most, -1, 2835) == BMP_NEGATIVE_RESOLUTION);
+    assert(number_of(good, most, 2835, -1) == BMP_NEGATIVE_RESOLUTION);
+    assert(number_of(good, 0, INT32_MIN, INT32_MIN) == BMP_NEGATIVE_RESOLUTION);
+    bmp_source source = good;
+    source.has_palette = false;
+    source.stride = UINT64_MAX;
+    assert(number_of(source, over[0], -1, 0) == BMP_LIMIT_TOO_LARGE);
+    assert(number_of(source, 0, -1, 0) == BMP_NEGATIVE_RESOLUTION);
+    assert(number_of(source, 0, 0, 0) == BMP_PALETTE_MISSING);
+    const bmp_settings settings = { most, 0, -1 };
+    assert(encoded(good, BMP_OPTIONS_DEFAULT, settings, 3).refusal == BMP_NEGATIVE_RESOLUTION);
+    assert(encoded(good, BMP_OPTIONS_DEFAULT, of_a_screen, 3).refusal == BMP_PALETTE_NOT_QUADS);
+    source.height = 0x80000000;
+    assert(number_of(source, over[0], -1, -1) == BMP_DIMENSION_TOO_LARGE);
+    source.width = 0;
+    assert(number_of(source, over[0], -1, -1) == BMP_ZERO_DIMENSION);
+    source.format = 10;
+    assert(number_of(source, over[0], -1, -1) == BMP_UNKNOWN_FORMAT);
+}
+
+/* Across at byte 38 and down at byte 42, low byte first; every other byte is that of the call without settings. */
+static void resolutions(void) {
+    const bmp_source source = { BMP_PAL8, SIDE, SIDE, true, false, false, SIDE };
+    const bmp_settings settings = { CELLS, 0x01020304, 0x7F060708 };
+    const uint8_t palette[4] = { 1, 2, 3, 4 }, fields[8] = { 4, 3, 2, 1, 8, 7, 6, 0x7F };
+    paint(true);
+    memset(with_defaults, 0xAA, sizeof with_defaults);
+    bmp_answer before = bmp_encode_into(source, BMP_OPTIONS_DEFAULT, panel, sizeof panel, palette, 4, NULL, 0, NULL, 0,
+                                        with_defaults, sizeof with_defaults, 0);
+    bmp_answer answer = encoded(source, BMP_OPTIONS_DEFAULT, BMP_SETTINGS_DEFAULT, 4);
+    assert(memcmp(&answer, &before, sizeof answer) == 0 && memcmp(out, with_defaults, sizeof out) == 0);
+    bmp_answer bound =
+        bmp_encoded_size_bound(source, BMP_OPTIONS_DEFAULT, panel, sizeof panel, palette, 4, NULL, 0, NULL, 0);
+    before = bmp_encoded_size_bound_with(source, BMP_OPTIONS_DEFAULT, BMP_SETTINGS_DEFAULT, panel, sizeof panel, palette,
+                                         4, NULL, 0, NULL, 0);
+    assert(memcmp(&bound, &before, sizeof bound) == 0 && bound.bytes == HEAD + CELLS + 2 * SIDE + 2);
+    answer = encoded(source, BMP_OPTIONS_DEFAULT, settings, 4);
+    assert(answer.refusal == BMP_OK && memcmp(out + 38, fields, 8) == 0);
+    shows_panel(answer);
+    memcpy(out + 38, with_defaults + 38, 8);
+    assert(memcmp(out, with_defaults, sizeof out) == 0);
+}
+
 int main(void) {
     file();
     masks();
@@ -242,5 +381,8 @@ int main(void) {
     reading();
     reading_refused();
     huge();
+    limits();
+    settings_refused();
+    resolutions();
     return 0;
 }

@@ -10,6 +10,8 @@ static const bmp_options several[2] = { BMP_OPTIONS_DEFAULT, BMP_OPTIONS_DEFAULT
 #if __cplusplus >= 201103L
 constexpr bmp_options constant = BMP_OPTIONS_DEFAULT;
 static_assert(constant.rle && constant.rendering_intent == 4, "the defaults are a constant");
+constexpr bmp_settings screen = BMP_SETTINGS_DEFAULT;
+static_assert(screen.limit == 4294967295u && screen.x_pels_per_meter == 2835, "and so are the settings");
 #endif
 
 // The struct has no bytes between its fields, so that bytes can be compared.
@@ -53,6 +55,34 @@ static void reading() {
     for (int k = 0; k < 7; k++) assert(cells[k] == (k == 0 || k == 6 ? 9u : 7u));
 }
 
+// A file under the limit with the resolutions asked for, the numbers of a limit and of settings, and the defaults.
+static void settings() {
+    assert(sizeof(bmp_settings) == 16);
+    const bmp_source source = { BMP_PAL8, 5, 1, true, false, false, 5 };
+    bmp_options options = BMP_OPTIONS_DEFAULT;
+    options.minimal_palette = true;
+    const uint8_t plane[5] = { 7, 7, 7, 7, 7 };
+    uint8_t file[78], same[78];
+    const bmp_answer plain = bmp_encode_into(source, options, plane, 5, NULL, 0, NULL, 0, NULL, 0, file, 78, 0);
+    bmp_settings settings = BMP_SETTINGS_DEFAULT;
+    bmp_answer answer = bmp_encode_into_with(source, options, settings, plane, 5, NULL, 0, NULL, 0, NULL, 0, same, 78, 0);
+    assert(answer.bytes == 62 && plain.bytes == 62 && std::memcmp(file, same, 62) == 0);
+    settings.limit = 62;
+    settings.x_pels_per_meter = 3780;
+    answer = bmp_encode_into_with(source, options, settings, plane, 5, NULL, 0, NULL, 0, NULL, 0, same, 78, 0);
+    assert(answer.bytes == 62 && same[38] == 0xC4 && same[39] == 0x0E && std::memcmp(file + 42, same + 42, 20) == 0);
+    settings.limit = 61;
+    answer = bmp_encode_into_with(source, options, settings, plane, 5, NULL, 0, NULL, 0, NULL, 0, same, 78, 0);
+    assert(answer.refusal == BMP_STREAM_OVER_BUDGET);
+    settings.y_pels_per_meter = -1;
+    answer = bmp_encoded_size_bound_with(source, options, settings, plane, 5, NULL, 0, NULL, 0, NULL, 0);
+    assert(answer.refusal == BMP_NEGATIVE_RESOLUTION);
+    settings.limit = 4294967295u;
+    settings.limit++;
+    answer = bmp_encoded_size_bound_with(source, options, settings, plane, 5, NULL, 0, NULL, 0, NULL, 0);
+    assert(answer.refusal == BMP_LIMIT_TOO_LARGE);
+}
+
 int main() {
     bmp_options options = BMP_OPTIONS_DEFAULT;
     assert(is_default(options) && is_default(several[0]) && is_default(several[1]));
@@ -63,10 +93,11 @@ int main() {
     assert(is_default(options));
 
     assert(std::strcmp(bmp_refusal_text(BMP_ZERO_DIMENSION), "width or height is 0") == 0);
-    assert(std::strcmp(bmp_refusal_text(20), "unknown refusal number") == 0);
+    assert(std::strcmp(bmp_refusal_text(22), "unknown refusal number") == 0);
 
     const bmp_source nothing = { BMP_RGB24, 0, 1, false, false, false, 0 };
     assert(bmp_encoded_size_bound(nothing, BMP_OPTIONS_DEFAULT, NULL, 0, NULL, 0, NULL, 0, NULL, 0).refusal == BMP_ZERO_DIMENSION);
     reading();
+    settings();
     return 0;
 }

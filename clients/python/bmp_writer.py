@@ -56,12 +56,14 @@ REFUSALS = {
     11: "masks are for Rgba, Rgb24, Bgra and Bgr24 alone",
     12: "the plane is shorter than stride times height",
     13: "the stride is below width times the bytes of a pixel",
-    14: "the file would be over 4294967295 bytes",
+    14: "the file would be over the limit",
     15: "the buffer is shorter than the file's bound",
-    16: "neither the stream nor the plain file fits in 4294967295 bytes",
+    16: "neither the stream nor the plain file fits in the limit",
     17: "the head is one that the writer never writes",
     18: "a byte of header, masks, table, rows or profile lies outside the file",
     19: "the stream steps over a row's end, ends too early or uses a delta code",
+    20: "the limit is over 4294967295 bytes",
+    21: "a resolution is negative",
     255: "the format's number is none of those listed",
 }
 
@@ -138,6 +140,10 @@ class _Options(ctypes.Structure):
                 ("rendering_intent", ctypes.c_uint32), ("endpoints", ctypes.c_int32 * 9), ("gamma", ctypes.c_uint32 * 3)]
 
 
+class _Settings(ctypes.Structure):
+    _fields_ = [("limit", ctypes.c_uint64), ("x_pels_per_meter", ctypes.c_int32), ("y_pels_per_meter", ctypes.c_int32)]
+
+
 class _Source(ctypes.Structure):
     _fields_ = [("format", ctypes.c_uint32), ("width", ctypes.c_uint32), ("height", ctypes.c_uint32),
                 ("has_palette", ctypes.c_bool), ("has_icc", ctypes.c_bool), ("has_linked_icc", ctypes.c_bool),
@@ -160,6 +166,7 @@ class _ReadingSizes(ctypes.Structure):
 
 _KINDS = {name.lower(): kind for kind, name in enumerate(FORMATS)}
 _MAX_U16, _MAX_U32, _MAX_U64 = 2 ** 16 - 1, 2 ** 32 - 1, 2 ** 64 - 1
+_MIN_I32, _MAX_I32 = -2 ** 31, 2 ** 31 - 1
 _BUILD = "run `rt staticlib capi && bash clients/build.sh` in the checkout, or set BMP_WRITER_LIBRARY to libbmp_writer.so"
 _ENTRY = "(red, green, blue) or (red, green, blue, alpha)"
 _ENTRIES = f"a sequence of {_ENTRY}"
@@ -187,10 +194,11 @@ def _lib() -> ctypes.CDLL:
         slices = [ctypes.c_char_p, ctypes.c_size_t] * 4
         try:
             library = ctypes.CDLL(path)
-            library.bmp_encoded_size_bound.argtypes = [_Source, _Options, *slices]
-            library.bmp_encoded_size_bound.restype = _Answer
-            library.bmp_encode_into.argtypes = [_Source, _Options, *slices, ctypes.c_void_p, ctypes.c_size_t, ctypes.c_size_t]
-            library.bmp_encode_into.restype = _Answer
+            library.bmp_encoded_size_bound_with.argtypes = [_Source, _Options, _Settings, *slices]
+            library.bmp_encoded_size_bound_with.restype = _Answer
+            library.bmp_encode_into_with.argtypes = [_Source, _Options, _Settings, *slices, ctypes.c_void_p, ctypes.c_size_t,
+                                                     ctypes.c_size_t]
+            library.bmp_encode_into_with.restype = _Answer
             library.bmp_check_masks.argtypes = [ctypes.c_uint16] + [ctypes.c_uint32] * 4
             library.bmp_check_masks.restype = ctypes.c_uint32
             library.bmp_read.argtypes = [ctypes.c_char_p, ctypes.c_size_t] + [ctypes.c_void_p, ctypes.c_size_t] * 3
@@ -365,7 +373,7 @@ def _raw_options(options: Any) -> _Options:
     if options.calibrated_rgb is not None:
         _instance("options.calibrated_rgb", options.calibrated_rgb, CalibratedRgb)
         raw.has_calibrated = True
-        raw.endpoints[:] = _wholes("options.calibrated_rgb.endpoints", options.calibrated_rgb.endpoints, 9, -2 ** 31, 2 ** 31 - 1)
+        raw.endpoints[:] = _wholes("options.calibrated_rgb.endpoints", options.calibrated_rgb.endpoints, 9, _MIN_I32, _MAX_I32)
         raw.gamma[:] = _wholes("options.calibrated_rgb.gamma", options.calibrated_rgb.gamma, 3, 0, _MAX_U32)
     return raw
 
@@ -379,7 +387,7 @@ def _accepted(answer: Any) -> Any:
 
 
 def _planned(plane: Any, width: Any, height: Any, format: Any, stride: Any, palette: Any, icc: Any, linked_icc: Any, options: Any,
-             palette_rgba: Any, more_follows: Any) -> Tuple[List[Any], int]:
+             palette_rgba: Any, more_follows: Any, limit: Any, x_pels_per_meter: Any, y_pels_per_meter: Any) -> Tuple[List[Any], int]:
     """The library's arguments, and the bytes that it asks for with them. Its own refusals come before that of a longer plane."""
     kind = _kind(format)
     _flag("more_follows", more_follows)
@@ -390,10 +398,12 @@ def _planned(plane: Any, width: Any, height: Any, format: Any, stride: Any, pale
     profile = None if icc is None else _flat("icc", icc)
     linked = None if linked_icc is None else _flat("linked_icc", linked_icc)
     source = _Source(kind, width, height, table is not None, profile is not None, linked is not None, stride)
-    arguments: List[Any] = [source, _raw_options(options)]
+    settings = _Settings(_whole("limit", limit, 0, _MAX_U64), _whole("x_pels_per_meter", x_pels_per_meter, _MIN_I32, _MAX_I32),
+                         _whole("y_pels_per_meter", y_pels_per_meter, _MIN_I32, _MAX_I32))
+    arguments: List[Any] = [source, _raw_options(options), settings]
     for lent in (data, table, profile, linked):
         arguments += [lent, 0 if lent is None else len(lent)]
-    bound = _accepted(_lib().bmp_encoded_size_bound(*arguments)).bytes
+    bound = _accepted(_lib().bmp_encoded_size_bound_with(*arguments)).bytes
     if len(data) > stride * height and not more_follows:
         raise ValueError(f"plane: {len(data)} bytes given, and stride times height is {stride * height}; pass more_follows=True "
                          "if what follows is no part of the picture")
@@ -403,15 +413,18 @@ def _planned(plane: Any, width: Any, height: Any, format: Any, stride: Any, pale
 def size_bound(plane: Buffer, width: Optional[int] = None, height: Optional[int] = None, format: str = "Pal8",
                stride: Optional[int] = None, palette: Union[Sequence[Sequence[int]], Buffer, None] = None,
                icc: Optional[Buffer] = None, linked_icc: Optional[Buffer] = None, options: Optional[EncodeOptions] = None, *,
-               palette_rgba: Optional[Buffer] = None, more_follows: bool = False) -> int:
+               palette_rgba: Optional[Buffer] = None, more_follows: bool = False, limit: int = _MAX_U32,
+               x_pels_per_meter: int = 2835, y_pels_per_meter: int = 2835) -> int:
     """The bytes that a file of these arguments needs at most: those of `encode`, which says what they are."""
-    return _planned(plane, width, height, format, stride, palette, icc, linked_icc, options, palette_rgba, more_follows)[1]
+    return _planned(plane, width, height, format, stride, palette, icc, linked_icc, options, palette_rgba, more_follows, limit,
+                    x_pels_per_meter, y_pels_per_meter)[1]
 
 
 def encode(plane: Buffer, width: Optional[int] = None, height: Optional[int] = None, format: str = "Pal8",
            stride: Optional[int] = None, palette: Union[Sequence[Sequence[int]], Buffer, None] = None,
            icc: Optional[Buffer] = None, linked_icc: Optional[Buffer] = None, options: Optional[EncodeOptions] = None, *,
-           palette_rgba: Optional[Buffer] = None, more_follows: bool = False) -> Tuple[bytes, str]:
+           palette_rgba: Optional[Buffer] = None, more_follows: bool = False, limit: int = _MAX_U32,
+           x_pels_per_meter: int = 2835, y_pels_per_meter: int = 2835) -> Tuple[bytes, str]:
     """The file as bytes, and what it was written as (one of WRITTEN).
 
     plane         One-byte items, rows from the top. A shape of (height, width), or of (height, width, bytes of a pixel) for
@@ -425,11 +438,15 @@ def encode(plane: Buffer, width: Optional[int] = None, height: Optional[int] = N
     icc           A colour profile to embed; linked_icc the name of one, as the file is to hold it.
     more_follows  Whether the plane may be longer than stride times height. It is refused otherwise, since a plane that is too
                   long has mostly another width.
+    limit         The bytes that the file may have, as the screen that shows it takes them: at most 4294967295. A plain file that
+                  would be longer is written as a stream, if that fits, or refused.
+    x_pels_per_meter, y_pels_per_meter
+                  The cells in a metre of that screen, across and down, not negative. 2835 are 72 to the inch.
     """
     arguments, bound = _planned(plane, width, height, format, stride, palette, icc, linked_icc, options, palette_rgba,
-                                more_follows)
+                                more_follows, limit, x_pels_per_meter, y_pels_per_meter)
     out = ctypes.create_string_buffer(bound)
-    answer = _accepted(_lib().bmp_encode_into(*arguments, out, bound, 0))
+    answer = _accepted(_lib().bmp_encode_into_with(*arguments, out, bound, 0))
     return memoryview(out)[:answer.bytes].tobytes(), WRITTEN[answer.format]
 
 

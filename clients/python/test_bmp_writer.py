@@ -220,6 +220,87 @@ class Files(Case):
                 self.assertFalse(os.path.exists(os.path.join(folder, "out.bmp")))
 
 
+class Settings(Case):
+    """What a screen asks for: a wall panel takes no file over 262,144 bytes, and the plain one of 512 x 512 has 1,078 more."""
+    runs = bytes((x // 8 + y // 8) % 256 for y in range(512) for x in range(512))
+    noise = bytes((7 * x + y) % 256 for y in range(512) for x in range(512))
+    plain = EncodeOptions(rle=False)
+
+    def panel(self, plane, limit, **named):
+        file, written = encode(plane, 512, 512, palette=[], limit=limit, **named)
+        self.assertLessEqual(len(file), limit)
+        self.assertLessEqual(len(file), size_bound(plane, 512, 512, palette=[], limit=limit, **named))
+        self.assertEqual(bytes(bmp_writer.read(file).cells.tolist()), plane)
+        return len(file), written
+
+    def over(self, plane, limit):
+        """The stream is not looked at by the size query."""
+        self.assertGreater(size_bound(plane, 512, 512, palette=[], limit=limit), 0)
+        with self.assertRaises(BmpError) as caught:
+            encode(plane, 512, 512, palette=[], limit=limit)
+        self.assertEqual(str(caught.exception), "16: neither the stream nor the plain file fits in the limit")
+
+    def test_limits(self):
+        size, written = self.panel(self.runs, 262144)
+        self.assertEqual((written, size < 262144), ("Rle8", True))
+        for limit in (size, size + 1, 263221, 263222, 2 ** 32 - 1):
+            self.assertEqual(self.panel(self.runs, limit), (size, "Rle8"))
+        for limit in (0, 1, 1077, 1078, 1079, size - 1):
+            self.over(self.runs, limit)
+        for limit in (0, 1077, 1078, 262144, 263221):
+            self.over(self.noise, limit)
+            self.refused(14, self.runs, 512, 512, palette=[], options=self.plain, limit=limit)
+        self.assertEqual(self.panel(self.noise, 263222), (263222, "Indexed8"))
+        self.assertEqual(self.panel(self.runs, 263222, options=self.plain), (263222, "Indexed8"))
+        self.assertEqual(len(encode(b"abc", 1, 1, "Rgb24", icc=b"profile", limit=149)[0]), 149)
+        self.refused(14, b"abc", 1, 1, "Rgb24", icc=b"profile", limit=148)
+
+    def test_resolutions(self):
+        """Across at byte 38 and down at byte 42; every other byte, and every cell, is that of the file with the defaults."""
+        masks, gauges = Bitfields(16, (0xF800, 0x7E0, 0x1F, 0)), CalibratedRgb([0] * 9, [0] * 3)
+        for layout, options, profile in (("Pal8", None, None), ("Pal8", self.plain, None), ("Pal8", None, b"profile"),
+                                         ("Rgb24", None, None), ("Rgb565", None, None),
+                                         ("Rgb24", EncodeOptions(bitfields=masks), None),
+                                         ("Rgb24", EncodeOptions(calibrated_rgb=gauges), None)):
+            given = {"palette": [] if layout == "Pal8" else None, "options": options, "icc": profile}
+            plane = b"\7" * 9 * BYTES_PER_PIXEL[FORMATS.index(layout)]
+            usual, form = encode(plane, 9, 1, layout, **given)
+            self.assertEqual(usual[38:46].hex(), "130b0000130b0000")
+            self.assertEqual(encode(plane, 9, 1, layout, limit=2 ** 32 - 1, x_pels_per_meter=2835, y_pels_per_meter=2835, **given),
+                             (usual, form))
+            file, written = encode(plane, 9, 1, layout, x_pels_per_meter=0x01020304, y_pels_per_meter=0x7F060708, **given)
+            self.assertEqual((written, file[38:46].hex()), (form, "040302010807067f"))
+            self.assertEqual((file[:38], file[46:]), (usual[:38], usual[46:]))
+            self.assertEqual(bmp_writer.read(file).cells, bmp_writer.read(usual).cells)
+
+    def test_refused_settings(self):
+        """20 before 21, both behind 255, 1 and 2 and before 3."""
+        good = {"palette": []}
+        for limit in (2 ** 32, 2 ** 32 + 1, 2 ** 64 - 1):
+            self.refused(20, b"\0", 1, 1, limit=limit, **good)
+            self.refused(20, b"\0", 1, 1, limit=limit, x_pels_per_meter=-1, y_pels_per_meter=-2 ** 31, **good)
+        for x, y in ((-1, 0), (0, -1), (-2 ** 31, -2 ** 31)):
+            for limit in (0, 2 ** 32 - 1):
+                self.refused(21, b"\0", 1, 1, limit=limit, x_pels_per_meter=x, y_pels_per_meter=y, **good)
+        bad = {"limit": 2 ** 32, "x_pels_per_meter": -1, "y_pels_per_meter": -1}
+        self.refused(255, b"\0", 0, 1, "Cmyk", **bad)
+        self.refused(1, b"\0", 0, 2 ** 31, **bad)
+        self.refused(2, b"\0", 1, 2 ** 31, **bad)
+        self.refused(20, b"\0", 1, 1, **bad)
+        self.refused(21, b"\0", 1, 1, limit=0, x_pels_per_meter=-1)
+        self.refused(3, b"\0", 1, 1, limit=0)
+        self.assertEqual(encode(b"\0", 1, 1, x_pels_per_meter=0, y_pels_per_meter=2 ** 31 - 1, **good)[0][38:46].hex(),
+                         "00000000ffffff7f")
+
+    def test_arguments(self):
+        for name, low, high in (("limit", 0, 2 ** 64 - 1), ("x_pels_per_meter", -2 ** 31, 2 ** 31 - 1),
+                                ("y_pels_per_meter", -2 ** 31, 2 ** 31 - 1)):
+            for value in (low - 1, high + 1):
+                self.wrong(ValueError, [f"{name}: {value} is not in {low} .. {high}"], b"\0", 1, 1, palette=[], **{name: value})
+            for value in (None, 2835.0, "2835", True):
+                self.wrong(TypeError, [f"{name}: ", "an int is needed"], b"\0", 1, 1, palette=[], **{name: value})
+
+
 class Planes(Case):
     def test_kinds_of_buffers(self):
         plane = bytes(range(12))
@@ -678,7 +759,7 @@ class Errors(unittest.TestCase):
 class Package(unittest.TestCase):
     def test_the_structs_are_the_headers(self):
         here = []
-        for kind in (bmp_writer._Options, bmp_writer._Source, bmp_writer._Answer, bmp_writer._Reading, bmp_writer._ReadingSizes):
+        for kind in (bmp_writer._Options, bmp_writer._Settings, bmp_writer._Source, bmp_writer._Answer, bmp_writer._Reading, bmp_writer._ReadingSizes):
             name = "bmp" + re.sub("[A-Z]", lambda letter: "_" + letter.group().lower(), kind.__name__[1:])
             here += [f"BMP_PLACE({name}, {field}, {getattr(kind, field).offset});" for field, _ in kind._fields_]
             here += [f"BMP_BYTES({name}, {ctypes.sizeof(kind)});"]

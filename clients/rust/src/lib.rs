@@ -104,12 +104,14 @@ impl BmpError {
             11 => "masks are for Rgba, Rgb24, Bgra and Bgr24 alone",
             12 => "the plane is shorter than stride times height",
             13 => "the stride is below width times the bytes of a pixel",
-            14 => "the file would be over 4294967295 bytes",
+            14 => "the file would be over the limit",
             15 => "the buffer is shorter than the file's bound",
-            16 => "neither the stream nor the plain file fits in 4294967295 bytes",
+            16 => "neither the stream nor the plain file fits in the limit",
             17 => "the head is one that the writer never writes",
             18 => "a byte of header, masks, table, rows or profile lies outside the file",
             19 => "the stream steps over a row's end, ends too early or uses a delta code",
+            20 => "the limit is over 4294967295 bytes",
+            21 => "a resolution is negative",
             255 => "the format's number is none of those listed",
             _ => "unknown refusal number",
         }
@@ -158,7 +160,7 @@ pub struct CalibratedRgb {
     pub gamma: [u32; 3],
 }
 
-/// The original's options and defaults.
+/// The original's options and defaults, and the settings of the screen that shows the file.
 #[derive(Clone, Debug, PartialEq, Eq)]
 pub struct EncodeOptions {
     pub top_down: bool,
@@ -169,6 +171,12 @@ pub struct EncodeOptions {
     pub linked_icc: Option<Vec<u8>>,
     pub rendering_intent: u32,
     pub calibrated_rgb: Option<CalibratedRgb>,
+    /// Bytes that a file may have, at most 4,294,967,295, which is the default: 20 where it is more.
+    pub limit: u64,
+    /// Cells in a metre across, 2835 by default, which is 72 to the inch: 21 where it is negative.
+    pub x_pels_per_meter: i32,
+    /// The same down.
+    pub y_pels_per_meter: i32,
 }
 
 impl Default for EncodeOptions {
@@ -182,6 +190,9 @@ impl Default for EncodeOptions {
             linked_icc: None,
             rendering_intent: 4,
             calibrated_rgb: None,
+            limit: 0xFFFF_FFFF,
+            x_pels_per_meter: 2835,
+            y_pels_per_meter: 2835,
         }
     }
 }
@@ -228,6 +239,21 @@ impl EncodeOptions {
 
     pub fn with_calibrated_rgb(mut self, calibrated: impl Into<Option<CalibratedRgb>>) -> Self {
         self.calibrated_rgb = calibrated.into();
+        self
+    }
+
+    pub fn with_limit(mut self, limit: u64) -> Self {
+        self.limit = limit;
+        self
+    }
+
+    pub fn with_x_pels_per_meter(mut self, pels: i32) -> Self {
+        self.x_pels_per_meter = pels;
+        self
+    }
+
+    pub fn with_y_pels_per_meter(mut self, pels: i32) -> Self {
+        self.y_pels_per_meter = pels;
         self
     }
 }
@@ -305,6 +331,14 @@ struct RawOptions {
 
 #[repr(C)]
 #[derive(Clone, Copy)]
+struct RawSettings {
+    limit: u64,
+    x_pels_per_meter: i32,
+    y_pels_per_meter: i32,
+}
+
+#[repr(C)]
+#[derive(Clone, Copy)]
 struct RawSource {
     format: u32,
     width: u32,
@@ -345,13 +379,14 @@ struct RawReadingSizes {
 
 #[rustfmt::skip]
 unsafe extern "C" {
-    fn bmp_encode_into(
-        source: RawSource, options: RawOptions, plane: *const u8, plane_len: usize, palette: *const u8, palette_len: usize,
-        icc: *const u8, icc_len: usize, linked_icc: *const u8, linked_icc_len: usize, out: *mut u8, out_len: usize, offset: usize,
+    fn bmp_encode_into_with(
+        source: RawSource, options: RawOptions, settings: RawSettings, plane: *const u8, plane_len: usize, palette: *const u8,
+        palette_len: usize, icc: *const u8, icc_len: usize, linked_icc: *const u8, linked_icc_len: usize, out: *mut u8,
+        out_len: usize, offset: usize,
     ) -> RawAnswer;
-    fn bmp_encoded_size_bound(
-        source: RawSource, options: RawOptions, plane: *const u8, plane_len: usize, palette: *const u8, palette_len: usize,
-        icc: *const u8, icc_len: usize, linked_icc: *const u8, linked_icc_len: usize,
+    fn bmp_encoded_size_bound_with(
+        source: RawSource, options: RawOptions, settings: RawSettings, plane: *const u8, plane_len: usize, palette: *const u8,
+        palette_len: usize, icc: *const u8, icc_len: usize, linked_icc: *const u8, linked_icc_len: usize,
     ) -> RawAnswer;
     fn bmp_check_masks(bpp: u16, red: u32, green: u32, blue: u32, alpha: u32) -> u32;
     fn bmp_read(
@@ -391,6 +426,14 @@ fn raw_options(options: &EncodeOptions) -> RawOptions {
     }
 }
 
+fn raw_settings(options: &EncodeOptions) -> RawSettings {
+    RawSettings {
+        limit: options.limit,
+        x_pels_per_meter: options.x_pels_per_meter,
+        y_pels_per_meter: options.y_pels_per_meter,
+    }
+}
+
 fn accepted(refusal: u32) -> Result<()> {
     match refusal {
         0 => Ok(()),
@@ -405,9 +448,9 @@ pub fn encoded_size_bound(src: &EncodeSource<'_>, options: &EncodeOptions) -> Re
     let linked = options.linked_icc.as_deref().unwrap_or(&[]);
     // Each pointer goes with the length of its slice, and the call reads no further.
     let answer = unsafe {
-        bmp_encoded_size_bound(
-            raw_source(src, options), raw_options(options), src.plane.as_ptr(), src.plane.len(), palette.as_ptr(), palette.len(),
-            icc.as_ptr(), icc.len(), linked.as_ptr(), linked.len(),
+        bmp_encoded_size_bound_with(
+            raw_source(src, options), raw_options(options), raw_settings(options), src.plane.as_ptr(), src.plane.len(),
+            palette.as_ptr(), palette.len(), icc.as_ptr(), icc.len(), linked.as_ptr(), linked.len(),
         )
     };
     accepted(answer.refusal)?;
@@ -421,9 +464,10 @@ pub fn encode_into(src: &EncodeSource<'_>, options: &EncodeOptions, out: &mut [u
     let linked = options.linked_icc.as_deref().unwrap_or(&[]);
     // The same, and `out` is borrowed alone, so it overlaps no input.
     let answer = unsafe {
-        bmp_encode_into(
-            raw_source(src, options), raw_options(options), src.plane.as_ptr(), src.plane.len(), palette.as_ptr(), palette.len(),
-            icc.as_ptr(), icc.len(), linked.as_ptr(), linked.len(), out.as_mut_ptr(), out.len(), offset,
+        bmp_encode_into_with(
+            raw_source(src, options), raw_options(options), raw_settings(options), src.plane.as_ptr(), src.plane.len(),
+            palette.as_ptr(), palette.len(), icc.as_ptr(), icc.len(), linked.as_ptr(), linked.len(), out.as_mut_ptr(), out.len(),
+            offset,
         )
     };
     accepted(answer.refusal)?;
@@ -508,6 +552,7 @@ mod layout {
     fn the_structs_are_the_headers() {
         let mut here = places!("bmp_options", RawOptions: top_down, minimal_palette, rle, embed_icc, has_bitfields, has_calibrated,
             bitfields_bpp, bitfields_masks, rendering_intent, endpoints, gamma);
+        here.extend(places!("bmp_settings", RawSettings: limit, x_pels_per_meter, y_pels_per_meter));
         here.extend(places!("bmp_source", RawSource: format, width, height, has_palette, has_icc, has_linked_icc, stride));
         here.extend(places!("bmp_answer", RawAnswer: bytes, refusal, format));
         here.extend(places!("bmp_reading", RawReading: profile_at, profile_bytes, refusal, width, height, depth));
@@ -515,6 +560,6 @@ mod layout {
             depth));
         let header = include_str!("../../c/bmp_writer.h");
         let there: Vec<&str> = header.lines().filter(|l| l.starts_with("BMP_PLACE(") || l.starts_with("BMP_BYTES(")).collect();
-        assert_eq!((here.len(), here), (39, there.into_iter().map(String::from).collect()));
+        assert_eq!((here.len(), here), (43, there.into_iter().map(String::from).collect()));
     }
 }

@@ -61,13 +61,13 @@ fn refusals() {
 #[test]
 fn the_texts_are_the_headers() {
     let there: Vec<&str> = HEADER.split("return \"").skip(1).map(|rest| rest.split('"').next().unwrap()).collect();
-    let here: Vec<&str> = (0..=19).chain([255, 20]).map(|number| BmpError::refused(number).text()).collect();
+    let here: Vec<&str> = (0..=21).chain([255, 22]).map(|number| BmpError::refused(number).text()).collect();
     assert_eq!(here, there);
 }
 
 #[test]
 fn unknown_numbers_print_as_such() {
-    assert_eq!(BmpError::refused(20).to_string(), "20: unknown refusal number");
+    assert_eq!(BmpError::refused(22).to_string(), "22: unknown refusal number");
     assert_eq!(BmpError::refused(u32::MAX).to_string(), "4294967295: unknown refusal number");
     assert_eq!(BmpError::refused(255).to_string(), "255: the format's number is none of those listed");
     assert_eq!(EncodedBmpFormat::try_from(11), Ok(EncodedBmpFormat::AlphaBitfields));
@@ -282,6 +282,106 @@ fn huge_heads() {
         let missing = BmpError { kind: BmpErrorKind::OutOfMemory, number: 15 };
         assert!(error == BmpError::refused(19) || error == missing, "{error}");
     }
+}
+
+/// A wall panel's surface of 512 x 512 cells, in runs of eight or with no cell equal to the next.
+fn panel(runs: bool) -> Vec<u8> {
+    (0..512 * 512u32).map(|k| (k % 512, k / 512)).map(|(x, y)| if runs { x / 8 + y / 8 } else { 7 * x + y } as u8).collect()
+}
+
+/// What both calls answer: the file's length and format, or a number; a refused call changes no byte. Only 16 is not the size
+/// query's, and no file is over the limit or the bound.
+fn answered(src: &EncodeSource, options: &EncodeOptions) -> std::result::Result<(usize, EncodedBmpFormat), u32> {
+    let mut out = vec![0xAA; 264_248];
+    let bound = encoded_size_bound(src, options).map_err(|error| error.number);
+    let answer = encode_into(src, options, &mut out, 0).map_err(|error| error.number);
+    assert!(out[answer.map_or(0, |file| file.0)..].iter().all(|byte| *byte == 0xAA));
+    match answer {
+        Ok((bytes, _)) => assert!(bytes <= bound.unwrap() && bytes as u64 <= options.limit),
+        Err(16) => assert!(bound.is_ok()),
+        Err(number) => assert_eq!(bound, Err(number)),
+    }
+    answer
+}
+
+/// The panel takes no file over 262,144 bytes, and the plain one has 1,078 more. The stream is used as long as it fits, to the byte.
+#[test]
+fn limits() {
+    let (runs, noise) = (panel(true), panel(false));
+    let source = |plane| EncodeSource { height: 512, palette: Some(&[]), ..picture(BmpPixelFormat::Pal8, 512, 512, plane) };
+    let at = |limit| EncodeOptions::new().with_limit(limit);
+    let (bytes, format) = answered(&source(&runs), &at(262_144)).unwrap();
+    assert!(format == EncodedBmpFormat::Rle8 && bytes < 262_144);
+    for limit in [bytes as u64, bytes as u64 + 1, 263_221, 263_222, 0xFFFF_FFFF] {
+        assert_eq!(answered(&source(&runs), &at(limit)), Ok((bytes, EncodedBmpFormat::Rle8)));
+    }
+    for limit in [0, 1, 1077, 1078, 1079, bytes as u64 - 1] {
+        assert_eq!(answered(&source(&runs), &at(limit)), Err(16));
+    }
+    for limit in [0, 1077, 1078, 262_144, 263_221] {
+        assert_eq!(answered(&source(&runs), &at(limit).with_rle(false)), Err(14));
+        assert_eq!(answered(&source(&noise), &at(limit)), Err(16));
+    }
+    for (plane, rle) in [(&runs, false), (&noise, false), (&noise, true)] {
+        assert_eq!(answered(&source(plane), &at(263_222).with_rle(rle)), Ok((263_222, EncodedBmpFormat::Indexed8)));
+    }
+    let (file, _) = encode(&source(&runs), &at(262_144)).unwrap();
+    let (plain, _) = encode(&source(&runs), &at(263_222).with_rle(false)).unwrap();
+    let cells: Vec<u32> = runs.iter().map(|index| u32::from(*index)).collect();
+    assert_eq!((read(&file).unwrap().cells, read(&plain).unwrap().cells), (cells.clone(), cells));
+    let profile = EncodeSource { icc: Some(b"profile"), ..picture(BmpPixelFormat::Rgb24, 1, 3, &[1, 2, 3]) };
+    assert_eq!((answered(&profile, &at(149)), answered(&profile, &at(148))), (Ok((149, EncodedBmpFormat::Rgb24)), Err(14)));
+}
+
+/// Across at byte 38, down at byte 42; every other byte, and every cell, is that of the file with the defaults.
+#[test]
+fn resolutions() {
+    let plane = [7; 18];
+    let default = EncodeOptions::new();
+    let across = default.clone().with_x_pels_per_meter(0x0102_0304).with_y_pels_per_meter(0x7F06_0708);
+    let indexed = EncodeSource { palette: Some(&[]), ..picture(BmpPixelFormat::Pal8, 9, 9, &plane) };
+    let masks = BmpBitfields { bpp: 16, r: 0xF800, g: 0x7E0, b: 0x1F, a: 0 };
+    let gauges = CalibratedRgb { endpoints: [1; 9], gamma: [2; 3] };
+    for (src, options) in [
+        (indexed, across.clone()),
+        (indexed, across.clone().with_rle(false)),
+        (indexed, across.clone().with_linked_icc(b"name".to_vec())),
+        (picture(BmpPixelFormat::Rgb24, 6, 18, &plane), across.clone()),
+        (picture(BmpPixelFormat::Rgb565, 9, 18, &plane), across.clone()),
+        (picture(BmpPixelFormat::Rgb24, 6, 18, &plane), across.clone().with_calibrated_rgb(gauges)),
+        (picture(BmpPixelFormat::Rgb24, 6, 18, &plane), across.with_bitfields(masks)),
+    ] {
+        let plain = options.clone().with_x_pels_per_meter(2835).with_y_pels_per_meter(2835);
+        let ((mut file, format), (usual, written)) = (encode(&src, &options).unwrap(), encode(&src, &plain).unwrap());
+        assert_eq!((format, &file[38..46], &usual[38..46]), (written, &[4, 3, 2, 1, 8, 7, 6, 0x7F][..], &[0x13, 0xB, 0, 0, 0x13, 0xB, 0, 0][..]));
+        assert_eq!(read(&file).unwrap().cells, read(&usual).unwrap().cells);
+        file[38..46].copy_from_slice(&usual[38..46]);
+        assert_eq!(file, usual);
+    }
+    assert_eq!((default.limit, default.x_pels_per_meter, default.y_pels_per_meter), (0xFFFF_FFFF, 2835, 2835));
+}
+
+/// 20 stands before 21, both behind 1 and 2 and before 3.
+#[test]
+fn settings_that_are_refused() {
+    let src = sevens(&[7; 5], &[]);
+    let set = |limit, x, y| EncodeOptions::new().with_limit(limit).with_x_pels_per_meter(x).with_y_pels_per_meter(y);
+    for limit in [1 << 32, (1 << 32) + 1, u64::MAX] {
+        assert_eq!(answered(&src, &set(limit, 2835, 2835)), Err(20));
+        assert_eq!(answered(&src, &set(limit, -1, i32::MIN)), Err(20));
+    }
+    for (x, y) in [(-1, 0), (0, -1), (i32::MIN, i32::MIN)] {
+        assert_eq!((answered(&src, &set(0xFFFF_FFFF, x, y)), answered(&src, &set(0, x, y))), (Err(21), Err(21)));
+    }
+    assert!(answered(&src, &set(0xFFFF_FFFF, 0, i32::MAX)).is_ok());
+    let bad = set(1 << 32, -1, -1);
+    assert_eq!(answered(&EncodeSource { width: 0, height: 1 << 31, ..src }, &bad), Err(1));
+    assert_eq!(answered(&EncodeSource { height: 1 << 31, ..src }, &bad), Err(2));
+    assert_eq!(answered(&EncodeSource { palette: None, ..src }, &bad), Err(20));
+    assert_eq!(answered(&EncodeSource { palette: None, ..src }, &set(0, -1, 0)), Err(21));
+    assert_eq!(answered(&EncodeSource { palette: None, ..src }, &set(0, 0, 0)), Err(3));
+    assert_eq!(encode(&src, &bad).unwrap_err().to_string(), "20: the limit is over 4294967295 bytes");
+    assert_eq!(encode(&src, &set(0, -1, 0)).unwrap_err().to_string(), "21: a resolution is negative");
 }
 
 /// VERSION, the header and Cargo.toml say the same.
