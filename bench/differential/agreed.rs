@@ -1,5 +1,6 @@
 //! The agreed differences: what the original's file becomes before the port's is compared with it.
 
+use crate::port::Settings;
 use oxideav_bmp::encoder::EncodedBmpFormat::{self, AlphaBitfields, Bitfields, Rle4, Rle8};
 
 /// Which of the differences a file has.
@@ -7,6 +8,7 @@ use oxideav_bmp::encoder::EncodedBmpFormat::{self, AlphaBitfields, Bitfields, Rl
 pub struct Agreed {
     pub image_size: bool,
     pub wide_channel: bool,
+    pub resolutions: bool,
 }
 
 fn dword(file: &[u8], at: usize) -> usize {
@@ -53,13 +55,27 @@ fn refit_wide_channels(file: &mut [u8], masks: [u32; 4]) {
     }
 }
 
+/// The two resolutions are the call's (document 02, A.5), where the original has 2835 in every file.
+fn set_resolutions(file: &mut [u8], settings: Settings) {
+    let usual = Settings::default();
+    for (at, was, is) in [
+        (38, usual.x_pels_per_meter, settings.x_pels_per_meter),
+        (42, usual.y_pels_per_meter, settings.y_pels_per_meter),
+    ] {
+        assert_eq!(file[at..at + 4], was.to_le_bytes(), "the original's resolution");
+        file[at..at + 4].copy_from_slice(&is.to_le_bytes());
+    }
+}
+
 /// Makes the agreed differences in the original's file. The masks are the call's; they count in mask files only.
-pub fn agreed(format: EncodedBmpFormat, masks: [u32; 4], file: &mut [u8]) -> Agreed {
+pub fn agreed(format: EncodedBmpFormat, masks: [u32; 4], settings: Settings, file: &mut [u8]) -> Agreed {
     let is_mask_file = [Bitfields, AlphaBitfields].contains(&format);
     let found = Agreed {
         image_size: is_mask_file || [Rle8, Rle4].contains(&format),
         wide_channel: is_mask_file && masks.into_iter().any(is_wide),
+        resolutions: Settings { limit: settings.limit, ..Settings::default() } != settings,
     };
+    set_resolutions(file, settings);
     if found.image_size {
         fill_image_size(file);
     }

@@ -1,6 +1,7 @@
 //! One case: the arguments of a call in the port's terms, and what they mean.
 
-use crate::port::{Lent, Options, Source};
+use crate::port::{Lent, Options, Settings, Source};
+use crate::rule;
 
 pub const FORMATS: [&str; 10] =
     ["Rgba", "Rgb24", "Bgra", "Bgr24", "Rgb555", "Rgb565", "Pal8", "Indexed4", "Indexed2", "Indexed1"];
@@ -55,6 +56,7 @@ pub enum Plane {
 pub struct Case {
     pub source: Source,
     pub options: Options,
+    pub settings: Settings,
     pub plane: Plane,
     /// Absent slices may hold stray bytes; the flags in `source` say which count.
     pub palette: Vec<u8>,
@@ -121,12 +123,17 @@ impl Case {
         }
     }
 
-    /// Inside the domain of the comparison: 2, 4 and 15 don't apply and stride x height is below 2^64.
+    /// Inside the domain of the comparison: 2, 20, 21, 4 and 15 don't apply and stride x height is below 2^64.
     pub fn in_domain(&self) -> bool {
         let s = &self.source;
-        let top = i32::MAX as u32;
         let quads = !self.is_indexed() || !s.has_palette || self.palette.len() % 4 == 0;
-        s.width <= top && s.height <= top && quads && s.stride.checked_mul(u64::from(s.height)).is_some()
+        let settings = rule::limit_refused(&self.settings) || rule::resolution_refused(&self.settings);
+        !settings && !rule::dimension_refused(s) && quads && s.stride.checked_mul(u64::from(s.height)).is_some()
+    }
+
+    /// The settings are those of the functions without any.
+    pub fn has_default_settings(&self) -> bool {
+        self.settings == Settings::default()
     }
 
     /// Everything, to be read by a person.
@@ -136,11 +143,12 @@ impl Case {
             Plane::Zeros(len) => format!("{len} zeros"),
         };
         format!(
-            "{} mode {:?}\n  {:?}\n  {:?}\n  plane {}\n  palette {}\n  icc {}\n  linked {}\n  offset {} slack {} salt {}",
+            "{} mode {:?}\n  {:?}\n  {:?}\n  {:?}\n  plane {}\n  palette {}\n  icc {}\n  linked {}\n  offset {} slack {} salt {}",
             FORMATS[self.format()],
             self.mode(),
             self.source,
             self.options,
+            self.settings,
             plane,
             hex(&self.palette),
             hex(&self.icc),

@@ -53,8 +53,8 @@ fn file_exists(format: u32, mode: Mode, written: u32) -> bool {
     }
 }
 
-/// Whether some case of this format and mode has the answer. 16 needs streams of 4 GiB: the limit run, without mode.
-fn exists(format: u32, mode: Mode, answer: Answer, limit_run: bool) -> bool {
+/// Whether some case of this format and mode has the answer.
+fn exists(format: u32, mode: Mode, answer: Answer) -> bool {
     match answer {
         Answer::File(written) => file_exists(format, mode, written),
         Answer::Refused(1) => true,
@@ -63,10 +63,45 @@ fn exists(format: u32, mode: Mode, answer: Answer, limit_run: bool) -> bool {
         Answer::Refused(6..=10) => mode == Mode::Masks,
         Answer::Refused(11) => mode == Mode::Masks && format >= 4,
         Answer::Refused(12..=14) | Answer::BoundOnly => can_be_written(format, mode),
-        Answer::Refused(16) => limit_run && mode == Mode::None && [PAL8, INDEXED4].contains(&format),
+        Answer::Refused(16) => mode.is_plain() && [PAL8, INDEXED4].contains(&format),
         Answer::Refused(_) => false,
     }
 }
+
+/// Checks beside the table that must have been met.
+const OTHERS: [&str; 31] = [
+    "at a lower limit, 14",
+    "at a lower limit, 14: plain file a byte over",
+    "at a lower limit, 16, Indexed4",
+    "at a lower limit, 16, Pal8",
+    "at a lower limit, 16: plain file a byte over",
+    "at a lower limit, 16: stream's file a byte over",
+    "at a lower limit, budget 0, Indexed4",
+    "at a lower limit, budget 0, Pal8",
+    "at a lower limit, plain file",
+    "at a lower limit, plain file equal to the limit",
+    "at a lower limit, stream used and its file equal to the limit",
+    "at a lower limit, stream used where the plain file fits",
+    "at a lower limit, stream used where the plain file is over it, Indexed4",
+    "at a lower limit, stream used where the plain file is over it, Pal8",
+    "by both functions, with the default settings",
+    "port alone, 12: stride x height of 2^64 and more",
+    "port alone, 15: buffer too short",
+    "port alone, 15: offset about 2^64",
+    "port alone, 15: offset past the end",
+    "port alone, 1 before refused settings",
+    "port alone, 20: limit",
+    "port alone, 20: limit, and 21 applies too",
+    "port alone, 21: both resolutions",
+    "port alone, 21: resolution across",
+    "port alone, 21: resolution down",
+    "port alone, 2 before refused settings",
+    "port alone, 255 before refused settings",
+    "port alone, 2: height",
+    "port alone, 2: width",
+    "port alone, 4: palette bytes",
+    "resolutions set",
+];
 
 pub struct Counts {
     table: [[[u64; COLUMNS]; 9]; 10],
@@ -124,18 +159,20 @@ impl Counts {
     }
 
     /// Combinations that exist and were not met, or were met and cannot exist.
-    pub fn gaps(&self, limit_run: bool) -> Vec<String> {
+    pub fn gaps(&self) -> Vec<String> {
         let mut gaps = Vec::new();
         for (format, modes) in self.table.iter().enumerate() {
             for (mode, row) in modes.iter().enumerate() {
                 for (column, count) in row.iter().enumerate() {
                     let answer = answer_at(column);
-                    if exists(format as u32, MODES[mode], answer, limit_run) != (*count > 0) {
+                    if exists(format as u32, MODES[mode], answer) != (*count > 0) {
                         gaps.push(format!("{} {:?} {}: {count}", FORMATS[format], MODES[mode], name(answer)));
                     }
                 }
             }
         }
+        let unmet = OTHERS.into_iter().filter(|what| !self.others.contains_key(what));
+        gaps.extend(unmet.map(|what| format!("{what}: 0")));
         gaps
     }
 }

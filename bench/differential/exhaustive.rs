@@ -1,16 +1,18 @@
 //! Parts that try everything in a small range.
 
 use crate::case::{Case, INDEXED4, PAL8, Plane};
-use crate::compare::{Report, check_masks, compare, count_stream};
+use crate::compare::{Report, check_masks, compare, stream};
 use crate::generate::{run, source_bytes};
-use crate::port::{Options, Source};
+use crate::port::{Options, Settings, Source};
+use crate::rule;
 
-/// The default options, a palette of three entries, offset 3 and 5 bytes after the bound.
+/// The default options and settings, a palette of three entries, offset 3 and 5 bytes after the bound.
 pub fn simple(format: u32, width: u32, height: u32, plane: Plane) -> Case {
     let stride = u64::from(width) * source_bytes(format);
     Case {
         source: Source { format, width, height, stride, has_palette: true, ..Source::default() },
         options: Options { rle: true, embed_icc: true, rendering_intent: 4, ..Options::default() },
+        settings: Settings::default(),
         plane,
         palette: (1..=12).collect(),
         icc: Vec::new(),
@@ -25,7 +27,6 @@ fn try_rows(format: u32, height: u32, cells: Vec<u8>, report: &mut Report) {
     let width = cells.len() as u32 / height;
     let case = simple(format, width, height, Plane::Bytes(cells));
     compare(&case, &[], report);
-    count_stream(&case, report);
 }
 
 /// The row alone, before a long run and after one: in the last two the stream is the shorter.
@@ -132,5 +133,78 @@ pub fn mask_checks(report: &mut Report) {
     }
     for bpp in 0..=u16::MAX {
         try_masks(bpp, [1, 2, 4, 8], report);
+    }
+}
+
+/// A picture of every format in every header, and streams that are shorter than the rows.
+fn headers() -> Vec<Case> {
+    let mut cases = Vec::new();
+    for format in 0..10 {
+        let (width, height) = if [PAL8, INDEXED4].contains(&format) { (40, 2) } else { (3, 2) };
+        let len = u64::from(width * height) * source_bytes(format);
+        let cells = (0..len).map(|k| if k < len / 2 { 5 } else { k as u8 % 9 }).collect();
+        let mut plain = simple(format, width, height, Plane::Bytes(cells));
+        plain.options.minimal_palette = true;
+        // Masks are for the first four formats.
+        let mut variants = vec![plain.clone(); if format < 4 { 5 } else { 4 }];
+        variants[1].options.rle = false;
+        variants[2].options.has_calibrated = true;
+        variants[3].source.has_icc = true;
+        variants[3].icc = vec![0x11; 7];
+        if let Some(masked) = variants.get_mut(4) {
+            masked.options.has_bitfields = true;
+            masked.options.bitfields_bpp = 16;
+            masked.options.bitfields_masks = [0xF800, 0x7E0, 0x1F, 0];
+        }
+        cases.extend(variants);
+    }
+    cases
+}
+
+/// Each of these at every limit from 0 to three bytes over its bound.
+pub fn limits(report: &mut Report) {
+    for mut case in headers() {
+        let Ok(sizes) = rule::sizes(&case, rule::TRUE_LIMIT) else { unreachable!("small pictures") };
+        for limit in 0..=sizes.bound + 3 {
+            case.settings.limit = limit;
+            compare(&case, &[], report);
+        }
+    }
+}
+
+/// The wall panel of document 02: 512 x 512 cells, in runs or without equal neighbours, at 262,144 bytes and about each
+/// of its own sizes.
+pub fn panel(report: &mut Report) {
+    for format in [PAL8, INDEXED4] {
+        for runs in [1u32, 2, 3, 8, 64] {
+            let cells = (0..512 * 512u32).map(|k| (7 * (k % 512 / runs) + k / 512 / runs) as u8).collect();
+            let mut case = simple(format, 512, 512, Plane::Bytes(cells));
+            let Ok(sizes) = rule::sizes(&case, rule::TRUE_LIMIT) else { unreachable!("a small picture") };
+            let streamed = sizes.head + stream(&case).unwrap_or(0);
+            for about in [262_144, sizes.head, sizes.file, streamed] {
+                for limit in about - 2..=about + 2 {
+                    for rle in [true, false] {
+                        case.settings.limit = limit;
+                        case.options.rle = rle;
+                        compare(&case, &[], report);
+                    }
+                }
+            }
+        }
+    }
+}
+
+/// All pairs of 0, the powers of 2 and one less, 2835 and 3780 as resolutions, in each header.
+pub fn resolutions(report: &mut Report) {
+    let powers = (0..31).flat_map(|k| [1 << k, (1 << k) - 1]);
+    let numbers: Vec<i32> = powers.chain([2835, 3780, i32::MAX]).collect();
+    for mut case in headers() {
+        for across in &numbers {
+            for down in &numbers {
+                case.settings.x_pels_per_meter = *across;
+                case.settings.y_pels_per_meter = *down;
+                compare(&case, &[], report);
+            }
+        }
     }
 }

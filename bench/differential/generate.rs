@@ -1,7 +1,7 @@
 //! The generator: ordinary cases, copies of them with one fault, and large ones on sparse memory.
 
 use crate::case::{Case, DEPTHS, INDEXED4, Mode, PAL8, Plane, SOURCE_BYTES};
-use crate::port::{Options, Source};
+use crate::port::{Options, Settings, Source};
 use crate::random::Random;
 use crate::rule;
 
@@ -249,6 +249,80 @@ fn cells(random: &mut Random, len: usize) -> Vec<u8> {
     bytes
 }
 
+// Settings.
+
+fn resolution(random: &mut Random) -> i32 {
+    let any = (random.next() as u32 >> 1) as i32;
+    random.pick(&[0, 1, 2835, 3780, i32::MAX, any, any])
+}
+
+/// A limit about one of the case's own sizes, a round one, or any.
+fn limit(random: &mut Random, case: &Case, stream: Option<u64>) -> u64 {
+    let head = rule::head(case);
+    let raw = rule::stored_row(case).saturating_mul(u64::from(case.source.height));
+    let plain = head.saturating_add(raw);
+    let file = plain.saturating_add(rule::tail(case));
+    let budget = raw.min(rule::TRUE_LIMIT + 1 - head);
+    let about = match random.below(10) {
+        0 => head,
+        1 => plain,
+        2 => file,
+        3 | 4 => head + stream.unwrap_or(budget),
+        5 => head + budget,
+        6 => return random.pick(&[0, 1, 262_144, rule::TRUE_LIMIT]),
+        7 | 8 => return random.below(file.min(rule::TRUE_LIMIT) + 1),
+        _ => return random.below(rule::TRUE_LIMIT + 1),
+    };
+    about.saturating_add(2).saturating_sub(random.below(5)).min(rule::TRUE_LIMIT)
+}
+
+/// Settings that are not refused; one time in four the defaults.
+pub fn settings(random: &mut Random, case: &Case, stream: Option<u64>) -> Settings {
+    if random.one_in(4) {
+        return Settings::default();
+    }
+    Settings {
+        limit: limit(random, case, stream),
+        x_pels_per_meter: resolution(random),
+        y_pels_per_meter: resolution(random),
+    }
+}
+
+fn negative(random: &mut Random) -> i32 {
+    let any = random.next() as i32 | i32::MIN;
+    random.pick(&[-1, -2835, i32::MIN, any, any])
+}
+
+/// The settings with a limit that is too large, a negative resolution, or both.
+pub fn refused_settings(random: &mut Random, settings: Settings) -> Settings {
+    let mut refused = settings;
+    let which = random.range(1, 7);
+    if which & 1 != 0 {
+        let over = rule::TRUE_LIMIT + 1;
+        let (near, far) = (over + random.below(1000), random.range(over, u64::MAX - 1));
+        refused.limit = random.pick(&[over, near, far, u64::MAX]);
+    }
+    if which & 2 != 0 {
+        refused.x_pels_per_meter = negative(random);
+    }
+    if which & 4 != 0 {
+        refused.y_pels_per_meter = negative(random);
+    }
+    refused
+}
+
+/// Now and then what is refused before the settings: an unknown format, width or height 0 or too large.
+pub fn fault_before_settings(random: &mut Random, source: &mut Source) {
+    let over = (1 << 31) + random.below(1 << 31) as u32;
+    match random.below(16) {
+        0 => source.format = 10 + random.below(1000) as u32,
+        1 => source.width = 0,
+        2 => source.height = over,
+        3 => source.width = over,
+        _ => {}
+    }
+}
+
 // Cases.
 
 fn format(random: &mut Random) -> u32 {
@@ -270,6 +344,7 @@ fn frame(random: &mut Random) -> Case {
     Case {
         source,
         options,
+        settings: Settings::default(),
         plane: Plane::Zeros(0),
         palette: palette(random, format),
         icc: blob(random),
@@ -284,7 +359,7 @@ fn padding(random: &mut Random) -> u64 {
     if random.flag() { 0 } else { random.range(1, 13) }
 }
 
-/// An ordinary case.
+/// An ordinary case, with the default settings.
 pub fn ordinary(random: &mut Random) -> Case {
     let mut case = frame(random);
     case.source.width = random.pick(&WIDTHS);
@@ -353,6 +428,9 @@ pub fn large(random: &mut Random, most: u64) -> Case {
     let height = large_height(random, &case).clamp(1, fits.min(i32::MAX as u64).max(1));
     case.source.height = height as u32;
     case.plane = Plane::Zeros((height * case.source.stride).min(most) as usize);
+    if random.flag() {
+        case.settings = settings(random, &case, None);
+    }
     if random.one_in(8) { faulted(random, &case) } else { case }
 }
 

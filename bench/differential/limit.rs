@@ -1,4 +1,5 @@
-//! The true limit of 4,294,967,295 bytes, on sparse planes. The writing calls here are run on both sides.
+//! The true limit of 4,294,967,295 bytes, on sparse planes. The writing calls here are run on both sides, the port's by
+//! both functions where the settings are the default ones.
 
 use crate::agreed::agreed;
 use crate::case::{Case, INDEXED4, PAL8, Plane};
@@ -39,7 +40,7 @@ fn refused(what: &'static str, case: Case, number: u32, memory: u64) -> Expected
 }
 
 fn written(what: &'static str, case: Case, format: u32, bytes: u64) -> Expected {
-    let memory = bytes + rule::sizes(&case, rule::TRUE_LIMIT).map_or(0, |s| s.bound);
+    let memory = bytes + rule::sizes(&case, case.settings.limit).map_or(0, |s| s.bound);
     Expected { what, case, answer: Answer::File(format), bytes, one_at: None, memory }
 }
 
@@ -66,12 +67,20 @@ fn narrow() -> Vec<Expected> {
     ]
 }
 
-/// Where only the stream fits.
+fn at_limit(mut case: Case, limit: u64) -> Case {
+    case.settings.limit = limit;
+    case
+}
+
+/// Where only the stream fits, also to the byte at a limit of its own.
 fn wide() -> Vec<Expected> {
     let picture = || zeros(PAL8, 65_280, 65_800);
+    let bytes = 1078 + 33_821_200;
     vec![
         refused("Pal8 65,280 x 65,800 without RLE", without_rle(picture()), 14, 0),
-        written("Pal8 65,280 x 65,800: a stream of 33,821,200 bytes", picture(), 7, 1078 + 33_821_200),
+        written("Pal8 65,280 x 65,800: a stream of 33,821,200 bytes", picture(), 7, bytes),
+        written("the same at a limit of its own bytes", at_limit(picture(), bytes), 7, bytes),
+        refused("the same at a limit of a byte less", at_limit(picture(), bytes - 1), 16, bytes),
         written(
             "Indexed4 510 x 2^24: a stream of 100,663,296 bytes",
             zeros(INDEXED4, 510, 1 << 24),
@@ -118,11 +127,16 @@ fn available() -> u64 {
 }
 
 /// What the port does to a buffer of the bound, filled before the call: its answer and whether every byte is right.
-fn port_writes(case: &Case, plane: &[u8], bound: u64, file: &[u8]) -> (port::Answer, bool) {
+fn port_writes(case: &Case, plane: &[u8], bound: u64, file: &[u8], settings: bool) -> (port::Answer, bool) {
     let mut memory = Sparse::new(case.offset + bound as usize + case.slack);
     let buffer = memory.bytes_mut();
     buffer.fill(FILL);
-    let given = port::encode_into(case.source, case.options, case.lent(plane), buffer, case.offset);
+    let (source, options, lent) = (case.source, case.options, case.lent(plane));
+    let given = if settings {
+        port::encode_into_with(source, options, case.settings, lent, buffer, case.offset)
+    } else {
+        port::encode_into(source, options, lent, buffer, case.offset)
+    };
     let (before, rest) = buffer.split_at(case.offset);
     let (inside, after) = rest.split_at(file.len());
     let kept = |bytes: &[u8]| bytes.iter().all(|b| *b == FILL);
@@ -136,20 +150,29 @@ fn compare_large(expected: &Expected, plane: &[u8], report: &mut Report) {
     let bound = original.bound().expect("14 is not compared here");
     let (answer, number, format, file) = match original.encode() {
         Ok((format, mut file)) => {
-            agreed(WRITTEN[format as usize], case.options.bitfields_masks, &mut file);
+            agreed(WRITTEN[format as usize], case.options.bitfields_masks, case.settings, &mut file);
             (Answer::File(format), 0, format, file)
         }
         Err(number) => (Answer::Refused(number), number, 0, Vec::new()),
     };
     let wanted = port::Answer { bytes: file.len() as u64, refusal: number, format };
-    let (given, right) = port_writes(case, plane, bound, &file);
-    let query = port::size_bound(case.source, case.options, case.lent(plane));
-    let by_rule = rule::sizes(case, rule::TRUE_LIMIT).map(|s| s.bound);
+    let by_rule = rule::sizes(case, case.settings.limit).map(|s| s.bound);
     let paper = answer == expected.answer && wanted.bytes == expected.bytes;
     report.counts.add(case, answer);
-    if given != wanted || !right || query.bytes != bound || query.refusal != 0 || by_rule != Ok(bound) || !paper {
-        let sides = format!("original {wanted:?} bound {bound}, port {given:?} {query:?}, buffer right: {right}");
-        report.difference(case.plane_len() as u64, format!("{}: {sides}\n  {}", expected.what, case.describe()));
+    for settings in [false, true] {
+        if !settings && !case.has_default_settings() {
+            continue;
+        }
+        let (given, right) = port_writes(case, plane, bound, &file, settings);
+        let query = if settings {
+            port::size_bound_with(case.source, case.options, case.settings, case.lent(plane))
+        } else {
+            port::size_bound(case.source, case.options, case.lent(plane))
+        };
+        if given != wanted || !right || query.bytes != bound || query.refusal != 0 || by_rule != Ok(bound) || !paper {
+            let sides = format!("original {wanted:?} bound {bound}, port {given:?} {query:?}, buffer right: {right}");
+            report.difference(case.plane_len() as u64, format!("{}: {sides}\n  {}", expected.what, case.describe()));
+        }
     }
 }
 

@@ -47,14 +47,15 @@ fn arguments() -> Arguments {
     arguments
 }
 
-/// One ordinary case, and of an accepted one copies with a fault.
+/// One ordinary case, with refused settings too, and of an accepted one copies with a fault.
 fn ordinary(random: &mut Random, report: &mut Report) {
-    let case = generate::ordinary(random);
-    let Answer::File(_) = compare::compare(&case, &[], report) else { return };
-    compare::count_stream(&case, report);
-    if random.one_in(4) {
-        compare::lower_limit(&case, random, report);
+    let mut case = generate::ordinary(random);
+    case.settings = generate::settings(random, &case, compare::stream(&case));
+    let answer = compare::compare(&case, &[], report);
+    if random.one_in(8) {
+        compare::refused_settings(&case, &[], random, report);
     }
+    let Answer::File(_) = answer else { return };
     if random.one_in(4) {
         compare::port_alone(&case, random, report);
     }
@@ -72,6 +73,9 @@ fn generated(arguments: &Arguments, report: &mut Report) {
         if random.one_in(16) {
             let case = generate::large(&mut random, SPARSE_LEN as u64);
             compare::compare(&case, zeros.bytes(), report);
+            if random.one_in(8) {
+                compare::refused_settings(&case, zeros.bytes(), &mut random, report);
+            }
         } else {
             ordinary(&mut random, report);
         }
@@ -95,6 +99,9 @@ fn main() {
     timed("all samples at all channel widths", &mut report, exhaustive::samples);
     timed("all pairs of runs at depth 16", &mut report, exhaustive::pairs);
     timed("mask checks", &mut report, exhaustive::mask_checks);
+    timed("all limits of small pictures", &mut report, exhaustive::limits);
+    timed("the panel", &mut report, exhaustive::panel);
+    timed("pairs of resolutions", &mut report, exhaustive::resolutions);
     timed("generated", &mut report, |report| generated(&arguments, report));
     if arguments.limit {
         timed("the true limit", &mut report, limit::all);
@@ -102,11 +109,11 @@ fn main() {
     println!("time: {:.1} s", start.elapsed().as_secs_f64());
     report.counts.print();
     report.print();
-    let gaps = report.counts.gaps(arguments.limit);
+    let gaps = report.counts.gaps();
     for gap in &gaps {
         println!("NOT MET, OR MET AND NOT POSSIBLE: {gap}");
     }
-    println!("combinations of format, mode and answer that exist and were not met: {}", gaps.len());
+    println!("combinations that exist and were not met: {}", gaps.len());
     if report.found > 0 || !gaps.is_empty() {
         std::process::exit(1);
     }

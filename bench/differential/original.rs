@@ -1,6 +1,7 @@
 //! The original encoder on a case, its messages as numbers.
 
 use crate::case::Case;
+use crate::rule;
 use oxideav_bmp::encoder::{self, BmpBitfields, DifferentialSizes, EncodedBmpFormat, Picture};
 use oxideav_bmp::error::BmpError;
 use oxideav_bmp::image::{BmpPixelFormat, Palette};
@@ -138,33 +139,44 @@ impl<'a> Original<'a> {
         }
     }
 
-    pub fn bound(&self) -> Result<u64, u32> {
-        encoder::differential_bound(&self.picture(), &self.options).map_err(|e| refusal(&e))
+    /// The case's limit where it is lower than the original's own.
+    fn lower(&self) -> Option<u64> {
+        Some(self.case.settings.limit).filter(|limit| *limit != rule::TRUE_LIMIT)
     }
 
-    /// The format's number and the file.
+    /// As `encoded_size_bound`, or by `with_limit`.
+    pub fn bound(&self) -> Result<u64, u32> {
+        match self.lower() {
+            None => encoder::differential_bound(&self.picture(), &self.options).map_err(|e| refusal(&e)),
+            Some(limit) => self.sizes(limit).map(|sizes| sizes.bound),
+        }
+    }
+
+    /// The format's number and the file, by `encode_source` or by `with_limit`.
     pub fn encode(&self) -> Result<(u32, Vec<u8>), u32> {
-        encoder::differential_encode(&self.picture(), &self.options)
-            .map(|(file, format)| (written_number(format), file))
-            .map_err(|e| refusal(&e))
+        let mut out = Vec::new();
+        match self.lower() {
+            None => encoder::differential_encode(&self.picture(), &self.options)
+                .map(|(file, format)| (written_number(format), file))
+                .map_err(|e| refusal(&e)),
+            Some(_) => self.append(&mut out).map(|format| (format, out)),
+        }
     }
 
     pub fn append(&self, out: &mut Vec<u8>) -> Result<u32, u32> {
-        encoder::differential_append(&self.picture(), &self.options, out).map(written_number).map_err(|e| refusal(&e))
+        let format = match self.lower() {
+            None => encoder::differential_append(&self.picture(), &self.options, out),
+            Some(limit) => encoder::differential_append_limited(&self.picture(), &self.options, limit, out),
+        };
+        format.map(written_number).map_err(|e| refusal(&e))
     }
 
     pub fn stream(&self) -> Option<u64> {
         encoder::differential_stream(&self.picture(), &self.options).ok().flatten()
     }
 
+    /// The counts of a plan at the limit.
     pub fn sizes(&self, limit: u64) -> Result<DifferentialSizes, u32> {
         encoder::differential_sizes(&self.picture(), &self.options, limit).map_err(|e| refusal(&e))
-    }
-
-    /// As `encode`, at a lower limit.
-    pub fn encode_limited(&self, limit: u64) -> Result<(u32, Vec<u8>), u32> {
-        encoder::differential_encode_limited(&self.picture(), &self.options, limit)
-            .map(|(file, format)| (written_number(format), file))
-            .map_err(|e| refusal(&e))
     }
 }

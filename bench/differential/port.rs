@@ -17,6 +17,21 @@ pub struct Options {
 }
 
 #[repr(C)]
+#[derive(Clone, Copy, Debug, PartialEq, Eq)]
+pub struct Settings {
+    pub limit: u64,
+    pub x_pels_per_meter: i32,
+    pub y_pels_per_meter: i32,
+}
+
+/// What the functions without settings have.
+impl Default for Settings {
+    fn default() -> Self {
+        Self { limit: 4_294_967_295, x_pels_per_meter: 2835, y_pels_per_meter: 2835 }
+    }
+}
+
+#[repr(C)]
 #[derive(Clone, Copy, Debug, Default)]
 pub struct Source {
     pub format: u32,
@@ -37,6 +52,7 @@ pub struct Answer {
 }
 
 const _: () = assert!(size_of::<Options>() == 76 && size_of::<Source>() == 24 && size_of::<Answer>() == 16);
+const _: () = assert!(size_of::<Settings>() == 16);
 
 /// The lent slices.
 #[derive(Clone, Copy)]
@@ -66,6 +82,35 @@ unsafe extern "C" {
     fn bmp_encoded_size_bound(
         source: Source,
         options: Options,
+        plane: *const u8,
+        plane_len: usize,
+        palette: *const u8,
+        palette_len: usize,
+        icc: *const u8,
+        icc_len: usize,
+        linked_icc: *const u8,
+        linked_icc_len: usize,
+    ) -> Answer;
+    fn bmp_encode_into_with(
+        source: Source,
+        options: Options,
+        settings: Settings,
+        plane: *const u8,
+        plane_len: usize,
+        palette: *const u8,
+        palette_len: usize,
+        icc: *const u8,
+        icc_len: usize,
+        linked_icc: *const u8,
+        linked_icc_len: usize,
+        out: *mut u8,
+        out_len: usize,
+        offset: usize,
+    ) -> Answer;
+    fn bmp_encoded_size_bound_with(
+        source: Source,
+        options: Options,
+        settings: Settings,
         plane: *const u8,
         plane_len: usize,
         palette: *const u8,
@@ -105,12 +150,61 @@ pub fn encode_into(source: Source, options: Options, lent: Lent<'_>, out: &mut [
     }
 }
 
+pub fn encode_into_with(
+    source: Source,
+    options: Options,
+    settings: Settings,
+    lent: Lent<'_>,
+    out: &mut [u8],
+    offset: usize,
+) -> Answer {
+    let Lent { plane, palette, icc, linked_icc } = lent;
+    let target = if out.is_empty() { std::ptr::null_mut() } else { out.as_mut_ptr() };
+    unsafe {
+        bmp_encode_into_with(
+            source,
+            options,
+            settings,
+            start(plane),
+            plane.len(),
+            start(palette),
+            palette.len(),
+            start(icc),
+            icc.len(),
+            start(linked_icc),
+            linked_icc.len(),
+            target,
+            out.len(),
+            offset,
+        )
+    }
+}
+
 pub fn size_bound(source: Source, options: Options, lent: Lent<'_>) -> Answer {
     let Lent { plane, palette, icc, linked_icc } = lent;
     unsafe {
         bmp_encoded_size_bound(
             source,
             options,
+            start(plane),
+            plane.len(),
+            start(palette),
+            palette.len(),
+            start(icc),
+            icc.len(),
+            start(linked_icc),
+            linked_icc.len(),
+        )
+    }
+}
+
+pub fn size_bound_with(source: Source, options: Options, settings: Settings, lent: Lent<'_>) -> Answer {
+    let Lent { plane, palette, icc, linked_icc } = lent;
+    unsafe {
+        bmp_encoded_size_bound_with(
+            source,
+            options,
+            settings,
             start(plane),
             plane.len(),
             start(palette),

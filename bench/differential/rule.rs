@@ -1,10 +1,38 @@
-//! The paper's rules for sizes, with the limit as an argument. At the true limit they are held against both sides,
-//! at lower ones against the original alone: the port has one limit.
+//! The paper's rules for sizes, with the limit as an argument, held against both sides; and its numbers that the
+//! original does not have.
 
 use crate::case::{Case, DEPTHS, INDEXED4, Mode, PAL8};
+use crate::port::{Settings, Source};
 use oxideav_bmp::encoder::DifferentialSizes;
 
 pub const TRUE_LIMIT: u64 = 4_294_967_295;
+
+/// 2.
+pub fn dimension_refused(source: &Source) -> bool {
+    source.width > i32::MAX as u32 || source.height > i32::MAX as u32
+}
+
+/// 20.
+pub fn limit_refused(settings: &Settings) -> bool {
+    settings.limit > TRUE_LIMIT
+}
+
+/// 21.
+pub fn resolution_refused(settings: &Settings) -> bool {
+    settings.x_pels_per_meter < 0 || settings.y_pels_per_meter < 0
+}
+
+/// The first that applies of all that stand before 3.
+pub fn before_palette(source: &Source, settings: &Settings) -> Option<u32> {
+    let rows = [
+        (255, source.format as usize >= DEPTHS.len()),
+        (1, source.width == 0 || source.height == 0),
+        (2, dimension_refused(source)),
+        (20, limit_refused(settings)),
+        (21, resolution_refused(settings)),
+    ];
+    rows.into_iter().find(|(_, applies)| *applies).map(|(number, _)| number)
+}
 
 fn depth(case: &Case) -> u64 {
     if case.mode() == Mode::Masks { u64::from(case.options.bitfields_bpp) } else { DEPTHS[case.format()] }
