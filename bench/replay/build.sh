@@ -13,11 +13,34 @@ trap 'rm -rf "$work"' EXIT
 for name in encoder error image options types; do
     cat "$1/$name.rs" > "$work/$name.rs"
 done
-# The plan's bound and its stream's length are private to the encoder's module.
+# The plan, its sizes and its stream's length are private to the encoder's module, and `with_limit` is compiled for its
+# tests only: `plan_at` has the same body.
 cat >> "$work/encoder.rs" <<'END'
 
-pub(crate) fn bound_of(src: &EncodeSource<'_>, options: &EncodeOptions) -> Result<u64> {
-    Ok(Plan::new(src, options)?.sizes.bound)
+fn plan_at<'a>(src: &EncodeSource<'a>, options: &'a EncodeOptions, limit: u64) -> Result<Plan<'a>> {
+    let mut plan = Plan::new(src, options)?;
+    plan.sizes = Sizes::of(&plan.head, &plan.rows, limit)?;
+    Ok(plan)
+}
+
+pub(crate) fn bound_at(src: &EncodeSource<'_>, options: &EncodeOptions, limit: u64) -> Result<u64> {
+    Ok(plan_at(src, options, limit)?.sizes.bound)
+}
+
+pub(crate) fn encode_at(
+    src: &EncodeSource<'_>,
+    options: &EncodeOptions,
+    limit: u64,
+) -> Result<(Vec<u8>, EncodedBmpFormat)> {
+    let mut out = Vec::new();
+    let format = plan_at(src, options, limit)?.write_into(&mut out)?;
+    Ok((out, format))
+}
+
+/// The bytes before the pixels, and those of the plain file.
+pub(crate) fn sizes_of(src: &EncodeSource<'_>, options: &EncodeOptions) -> Option<(u64, u64)> {
+    let sizes = Plan::new(src, options).ok()?.sizes;
+    Some((sizes.head, sizes.file))
 }
 
 /// The whole length of the stream and of the raw rows, where a stream is planned.

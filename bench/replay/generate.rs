@@ -13,6 +13,10 @@ use std::io::Write;
 
 const SEED: u64 = 0x4d59_2340_51;
 
+// The largest limit, and the resolution that the original writes.
+const MOST: u64 = 0xFFFF_FFFF;
+const PELS: i32 = 2835;
+
 const FORMATS: [BmpPixelFormat; 10] = [
     BmpPixelFormat::Rgba,
     BmpPixelFormat::Rgb24,
@@ -138,6 +142,8 @@ struct Case {
     masks: Option<(u16, [u32; 4])>,
     calibrated: Option<([i32; 9], [u32; 3])>,
     intent: u32,
+    limit: u64,
+    pels: [i32; 2],
 }
 
 // What a call must answer.
@@ -171,6 +177,8 @@ fn refusal(message: &str) -> u32 {
         ("source must be", 11),
         ("frame plane truncated", 12),
         ("plane stride", 13),
+        ("its RLE stream does not bring it under", 16),
+        ("bytes the BMP size fields can record", 14),
     ];
     for (words, number) in table {
         if message.contains(words) {
@@ -180,7 +188,7 @@ fn refusal(message: &str) -> u32 {
     panic!("a refusal outside the sample's domain: {message}")
 }
 
-// 2 and 4, which the original does not know, with what stands before them in document 01's table.
+// 2, 20, 21 and 4, which the original does not know, with what stands before them in the table.
 fn added(c: &Case) -> Option<u32> {
     let most = i32::MAX as u32;
     if c.width == 0 || c.height == 0 {
@@ -188,6 +196,12 @@ fn added(c: &Case) -> Option<u32> {
     }
     if c.width > most || c.height > most {
         return Some(2);
+    }
+    if c.limit > MOST {
+        return Some(20);
+    }
+    if c.pels[0] < 0 || c.pels[1] < 0 {
+        return Some(21);
     }
     match &c.palette {
         Some(p) if is_indexed(c.format) && p.len() % 4 != 0 => Some(4),
@@ -220,11 +234,8 @@ fn options_of(c: &Case) -> EncodeOptions {
     o
 }
 
-// The original's answer, or document 01's where the original has none.
-fn answer(c: &Case) -> Answer {
-    if let Some(number) = added(c) {
-        return refused(number);
-    }
+// What the original is handed in a call.
+fn with_source<T>(c: &Case, run: impl FnOnce(&EncodeSource<'_>, &EncodeOptions) -> T) -> T {
     let entries = |p: &Vec<u8>| p.chunks_exact(4).map(|e| [e[0], e[1], e[2], e[3]]).collect();
     let palette = c.palette.as_ref().map(|p| Palette::new(entries(p)));
     let src = EncodeSource {
@@ -235,14 +246,27 @@ fn answer(c: &Case) -> Answer {
         width: c.width,
         height: c.height,
     };
-    let o = options_of(c);
-    let bound = bound_of(&src, &o).map_err(|e| refusal(&e.to_string()));
-    let file = encode_source(&src, &o).map_err(|e| refusal(&e.to_string()));
-    match (bound, file) {
+    run(&src, &options_of(c))
+}
+
+// The original's answer, or the documents' where the original has none.
+fn answer(c: &Case) -> Answer {
+    if let Some(number) = added(c) {
+        return refused(number);
+    }
+    with_source(c, |src, o| original(c.limit, src, o))
+}
+
+fn original(limit: u64, src: &EncodeSource<'_>, o: &EncodeOptions) -> Answer {
+    let bound = bound_at(src, o, limit).map_err(|e| refusal(&e.to_string()));
+    let file = if limit == MOST { encode_source(src, o) } else { encode_at(src, o, limit) };
+    match (bound, file.map_err(|e| refusal(&e.to_string()))) {
         (Ok(bound), Ok((file, format))) => {
+            // `replay` sets these two fields.
+            assert!(file[38..42] == PELS.to_le_bytes() && file[42..46] == PELS.to_le_bytes());
             let name = format!("{format:?}");
             let format = WRITTEN.iter().position(|w| *w == name).unwrap() as u32;
-            let stream = match stream_of(&src, &o) {
+            let stream = match stream_of(src, o) {
                 None => 0,
                 Some((len, raw)) if len < raw => 1,
                 Some((len, raw)) if len == raw => 2,
@@ -251,6 +275,8 @@ fn answer(c: &Case) -> Answer {
             assert_eq!(stream == 1, format == 7 || format == 8);
             Answer { number: 0, format, bound_number: 0, bound: bound as u32, stream, file }
         }
+        // The stream is the writing call's alone.
+        (Ok(bound), Err(16)) => Answer { bound_number: 0, bound: bound as u32, ..refused(16) },
         (Err(a), Err(b)) if a == b => refused(a),
         _ => panic!("size query and encoder disagree"),
     }
@@ -340,6 +366,8 @@ fn plain(r: &mut Rng, format: usize, width: u32, height: u32, style: u64) -> Cas
         masks: None,
         calibrated: None,
         intent: r.of(&[4, 1, 2, 8, 0, 99, 0xFFFF_FFFF]),
+        limit: MOST,
+        pels: [PELS; 2],
     }
 }
 
@@ -381,6 +409,32 @@ fn set_mode(r: &mut Rng, c: &mut Case, mode: u64) {
     }
 }
 
+// A resolution that is not refused, and one that is.
+fn pels(r: &mut Rng) -> i32 {
+    let any = r.next() as i32 & i32::MAX;
+    r.of(&[0, 1, PELS, 3780, i32::MAX, any, any])
+}
+
+fn negative(r: &mut Rng) -> i32 {
+    let any = r.next() as i32 | i32::MIN;
+    r.of(&[-1, i32::MIN, any])
+}
+
+// A limit about the bytes before the pixels, about the plain file's or about the stream's file, or another.
+fn limit(r: &mut Rng, c: &Case) -> u64 {
+    let (sizes, stream) = with_source(c, |src, o| (sizes_of(src, o), stream_of(src, o)));
+    let Some((head, file)) = sizes else { return r.of(&[0, 1, 54, 262_144]) };
+    let streamed = stream.map_or(file, |(len, _)| head + len as u64);
+    let about = match r.below(8) {
+        0 => head,
+        1 | 2 => file,
+        3 | 4 | 5 => streamed,
+        6 => r.below(file),
+        _ => return r.of(&[0, 1, 262_144, MOST - 1]),
+    };
+    about + 2 - r.below(5).min(about + 2)
+}
+
 // ---- the sample
 
 struct Sample {
@@ -397,10 +451,11 @@ impl Sample {
         let r = &mut self.r;
         let mut offset = if r.coin() { 0 } else { 1 + r.below(30) as u32 };
         let mut room = r.below(60) as u32;
-        if a.number == 0 && !short {
+        let planned = a.bound_number == 0;
+        if planned && !short {
             room = offset + a.bound + r.of(&[0, 1, 7, 20]);
         }
-        if a.number == 0 && short {
+        if planned && short {
             match r.below(3) {
                 0 => room = offset + a.bound - 1,
                 1 => {
@@ -448,7 +503,8 @@ impl Sample {
             words.push(slice.len() as u32);
         }
         words.extend([a.number, a.format, a.bound_number, a.bound, a.stream]);
-        assert_eq!(words.len(), 37);
+        words.extend([c.limit as u32, (c.limit >> 32) as u32, c.pels[0] as u32, c.pels[1] as u32]);
+        assert_eq!(words.len(), 41);
         for word in words {
             self.out.extend(word.to_le_bytes());
         }
@@ -465,6 +521,9 @@ impl Sample {
             (n, _) => format!("refusal {n}"),
         };
         *self.seen.entry(what).or_insert(0) += 1;
+        if c.limit < MOST || c.pels != [PELS; 2] {
+            *self.seen.entry("with settings of its own".to_string()).or_insert(0) += 1;
+        }
     }
 
     // Every format in every mode.
@@ -666,12 +725,81 @@ impl Sample {
     }
 }
 
+impl Sample {
+    // Limits and resolutions in every format and mode, at streams above all.
+    fn settings(&mut self) {
+        for format in 0..10 {
+            for mode in 0..MODES {
+                let masked = (1..=4).contains(&mode);
+                let turns = if masked && format >= 4 { 1 } else { 3 };
+                for _ in 0..turns {
+                    let mut c = self.tiny(format);
+                    set_mode(&mut self.r, &mut c, mode);
+                    self.put_limited(c);
+                }
+            }
+        }
+        for format in [6, 7] {
+            for turn in 0..80 {
+                let r = &mut self.r;
+                let (width, height) = (9 + r.below(40) as u32, 1 + r.below(4) as u32);
+                let style = r.of(&[1, 2, 2, 4, 5]);
+                let mut c = plain(r, format, width, height, style);
+                c.top_down = false;
+                c.rle = true;
+                c.minimal = true;
+                c.palette = Some(palette(r, format, turn % 2));
+                self.put_limited(c);
+            }
+        }
+    }
+
+    fn put_limited(&mut self, mut c: Case) {
+        c.limit = limit(&mut self.r, &c);
+        c.pels = [pels(&mut self.r), pels(&mut self.r)];
+        let short = self.r.below(16) == 0;
+        self.put(&c, short);
+    }
+
+    // 20 and 21, alone and together, and among other faults.
+    fn refused_settings(&mut self) {
+        for format in 0..10 {
+            for turn in 0..12 {
+                let mut c = self.tiny(format);
+                let mode = self.r.below(MODES);
+                set_mode(&mut self.r, &mut c, mode);
+                let r = &mut self.r;
+                c.limit = r.of(&[0, 100, MOST]);
+                if turn % 3 != 1 {
+                    c.limit = r.of(&[MOST + 1, MOST + 2, MOST << 8, u64::MAX]);
+                }
+                if turn % 3 != 0 {
+                    c.pels[turn / 3 % 2] = negative(r);
+                }
+                if turn / 6 == 1 {
+                    match r.below(6) {
+                        0 => c.width = 0,
+                        1 => c.height = 0x8000_0000,
+                        2 => c.palette = None,
+                        3 => c.palette = Some(r.bytes(7)),
+                        4 => c.calibrated = Some(calibrated(r)),
+                        _ => c.plane.clear(),
+                    }
+                }
+                self.put(&c, turn == 5);
+            }
+        }
+    }
+}
+
 fn main() {
     let mut s = Sample { r: Rng(SEED), out: Vec::new(), cases: 0, seen: BTreeMap::new() };
     s.grid();
     s.streams();
     s.refusals();
     s.several();
+    s.settings();
+    s.refused_settings();
     let mut head = b"BMPS".to_vec();
     head.extend(s.cases.to_le_bytes());
     let mut to = std::io::stdout().lock();

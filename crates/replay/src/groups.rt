@@ -14,15 +14,15 @@ use leaves::bitfields::BmpBitfields;
 use leaves::encoder::EncodeSource;
 use leaves::options::EncodeOptions;
 
-// Modes and answers that are counted apart; with 10 source formats that makes 4,080 groups.
+// Modes and answers that are counted apart; with 10 source formats that makes 4,560 groups.
 const MODES: usize = 12;
 
-const ANSWERS: usize = 34;
+const ANSWERS: usize = 38;
 
-pub(crate) fn counters() -> [u32; 4080]
-    ensures { λ r. ⌜ 4080 ≡ length r ⌝ }
+pub(crate) fn counters() -> [u32; 4560]
+    ensures { λ r. ⌜ 4560 ≡ length r ⌝ }
 {
-    [0; 4080]
+    [0; 4560]
 }
 
 fn mask_mode(masks: BmpBitfields) -> usize {
@@ -70,7 +70,7 @@ pub(crate) fn mode_of(src: EncodeSource, options: EncodeOptions) -> usize {
 // longer.
 fn answer_of(answer: Answer, stream: u32) -> usize {
     if answer.number != 0 {
-        return 16 + (answer.number % 17) as usize;
+        return 16 + (answer.number % 22) as usize;
     }
     if stream == 2 {
         return if answer.format == 5 { 13 } else { 12 };

@@ -7,7 +7,7 @@ use leaves::options::CalibratedRgb;
 use leaves::options::EncodeOptions;
 
 // The words of a head.
-pub(crate) const WORDS: usize = 37;
+pub(crate) const WORDS: usize = 41;
 
 // The byte at a place; 0 past the end.
 fn byte_at(bytes: &[u8], at: usize) -> u32
@@ -105,6 +105,11 @@ fn calibrated_of(head: &[u8]) -> CalibratedRgb {
     }
 }
 
+// The limit's 64 bits are two words, the low one first.
+fn limit_of(head: &[u8]) -> u64 {
+    word(head, 37) as u64 + 0x1_0000_0000 * (word(head, 38) as u64)
+}
+
 pub(crate) fn options_of(head: &[u8]) -> EncodeOptions {
     let bitfields = masks_of(head);
     let calibrated_rgb = calibrated_of(head);
@@ -118,5 +123,8 @@ pub(crate) fn options_of(head: &[u8]) -> EncodeOptions {
         rendering_intent: word(head, 11),
         has_calibrated_rgb: has(head, 256),
         calibrated_rgb,
+        limit: limit_of(head),
+        x_pels_per_meter: signed(word(head, 39)),
+        y_pels_per_meter: signed(word(head, 40)),
     }
 }

@@ -47,7 +47,7 @@ fn read_record(head: &mut [u8], body: &mut [u8], file: &mut [u8]) -> bool {
 
 // Reads and runs the next record.
 fn step(case: u32, counts: &mut [u32], files: &mut [u32]) -> u32 {
-    let mut head_space = [0u8; 148];
+    let mut head_space = [0u8; 164];
     let head: &mut [u8] = &mut head_space;
     let mut body_space = space();
     let body: &mut [u8] = &mut body_space;
