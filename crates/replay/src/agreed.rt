@@ -2,7 +2,6 @@
 use crate::answers::Answer;
 use crate::head::dword;
 use leaves::buffer::put_u32;
-use leaves::encoder::EncodeSource;
 use leaves::encoder::EncodedBmpFormat;
 use leaves::options::EncodeOptions;
 
@@ -35,21 +34,13 @@ fn fill_image_size(format: u32, file: &mut [u8]) {
     put_u32(file, 34, bytes as u32);
 }
 
-// A resolution that is not refused, as its 32 bits.
-fn bits(pels: i32) -> u32 {
-    if pels < 0 {
-        return 0;
-    }
-    pels as u32
-}
-
 // biXPelsPerMeter and biYPelsPerMeter, where the original has 2835. What is too short to have them stays.
-fn set_resolutions(options: EncodeOptions, file: &mut [u8]) {
+fn set_resolutions(pels: [u32; 2], file: &mut [u8]) {
     if file.len() < 54 {
         return;
     }
-    put_u32(file, 38, bits(options.x_pels_per_meter));
-    put_u32(file, 42, bits(options.y_pels_per_meter));
+    put_u32(file, 38, pels[0]);
+    put_u32(file, 42, pels[1]);
 }
 
 // The eight bits of a sample, repeated from the top down until n bits are full (document 02, A.4).
@@ -100,10 +91,10 @@ fn refit_wide_channels(file: &mut [u8], masks: [u32; 4]) {
 
 // What is expected of a call for which the original gives `wanted` and this file. The image size of RLE files
 // and mask files is filled in (document 02, A.2), the channels of more than 16 bits in mask files are fitted
-// anew (document 02, A.4), and the two resolutions are the call's (document 02, A.5).
+// anew (document 02, A.4), and the two resolutions are the call's, whose bits are `pels` (document 02, A.5).
 pub(crate) fn agreed(
-    src: EncodeSource,
     options: EncodeOptions,
+    pels: [u32; 2],
     wanted: Answer,
     file: &mut [u8],
 ) -> Answer {
@@ -111,7 +102,7 @@ pub(crate) fn agreed(
         return wanted;
     }
     fill_image_size(wanted.format, file);
-    set_resolutions(options, file);
+    set_resolutions(pels, file);
     if is_masks(wanted.format) & options.has_bitfields {
         let fields = options.bitfields;
         let masks = fields.masks;

@@ -117,7 +117,8 @@ fn compared(
     out: &mut [u8],
     files: &mut [u32],
 ) -> u32 {
-    let wanted = agreed(source_of(head), options_of(head), expected(head), file);
+    let pels = [word(head, 39), word(head, 40)];
+    let wanted = agreed(options_of(head), pels, expected(head), file);
     let seed = word(head, 26);
     fill(out, seed);
     let came = called(head, body, out);
