@@ -286,13 +286,13 @@ static inline const char *bmp_refusal_text(uint32_t number) {
     case BMP_MASK_SOURCE: return "masks are for Rgba, Rgb24, Bgra and Bgr24 alone";
     case BMP_PLANE_TOO_SHORT: return "the plane is shorter than stride times height";
     case BMP_STRIDE_TOO_SHORT: return "the stride is below width times the bytes of a pixel";
-    case BMP_FILE_TOO_LARGE: return "the file would be over the limit";
+    case BMP_FILE_TOO_LARGE: return "the file would have more bytes than the limit";
     case BMP_BUFFER_TOO_SHORT: return "the buffer is shorter than the file's bound";
-    case BMP_STREAM_OVER_BUDGET: return "neither the stream nor the plain file fits in the limit";
+    case BMP_STREAM_OVER_BUDGET: return "neither the stream nor the plain file is within the limit";
     case BMP_NEVER_WRITTEN: return "the head is one that the writer never writes";
     case BMP_OUTSIDE_FILE: return "a byte of header, masks, table, rows or profile lies outside the file";
     case BMP_STREAM_FAULT: return "the stream steps over a row's end, ends too early or uses a delta code";
-    case BMP_LIMIT_TOO_LARGE: return "the limit is over 4294967295 bytes";
+    case BMP_LIMIT_TOO_LARGE: return "the limit is over 4294967295";
     case BMP_NEGATIVE_RESOLUTION: return "a resolution is negative";
     case BMP_UNKNOWN_FORMAT: return "the format's number is none of those listed";
     default: return "unknown refusal number";

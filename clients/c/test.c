@@ -55,7 +55,7 @@ static void texts(void) {
     assert(strcmp(bmp_refusal_text(UINT32_MAX), unknown) == 0);
     assert(strcmp(bmp_refusal_text(BMP_OK), "not refused") == 0);
     assert(strcmp(bmp_refusal_text(BMP_BUFFER_TOO_SHORT), "the buffer is shorter than the file's bound") == 0);
-    assert(strcmp(bmp_refusal_text(BMP_LIMIT_TOO_LARGE), "the limit is over 4294967295 bytes") == 0);
+    assert(strcmp(bmp_refusal_text(BMP_LIMIT_TOO_LARGE), "the limit is over 4294967295") == 0);
     assert(strcmp(bmp_refusal_text(BMP_NEGATIVE_RESOLUTION), "a resolution is negative") == 0);
     assert(strcmp(bmp_refusal_text(BMP_UNKNOWN_FORMAT), "the format's number is none of those listed") == 0);
 }

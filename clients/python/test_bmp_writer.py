@@ -238,7 +238,7 @@ class Settings(Case):
         self.assertGreater(size_bound(plane, 512, 512, palette=[], limit=limit), 0)
         with self.assertRaises(BmpError) as caught:
             encode(plane, 512, 512, palette=[], limit=limit)
-        self.assertEqual(str(caught.exception), "16: neither the stream nor the plain file fits in the limit")
+        self.assertEqual(str(caught.exception), "16: neither the stream nor the plain file is within the limit")
 
     def test_limits(self):
         size, written = self.panel(self.runs, 262144)

@@ -380,7 +380,7 @@ fn settings_that_are_refused() {
     assert_eq!(answered(&EncodeSource { palette: None, ..src }, &bad), Err(20));
     assert_eq!(answered(&EncodeSource { palette: None, ..src }, &set(0, -1, 0)), Err(21));
     assert_eq!(answered(&EncodeSource { palette: None, ..src }, &set(0, 0, 0)), Err(3));
-    assert_eq!(encode(&src, &bad).unwrap_err().to_string(), "20: the limit is over 4294967295 bytes");
+    assert_eq!(encode(&src, &bad).unwrap_err().to_string(), "20: the limit is over 4294967295");
     assert_eq!(encode(&src, &set(0, -1, 0)).unwrap_err().to_string(), "21: a resolution is negative");
 }
 
