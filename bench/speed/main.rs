@@ -14,7 +14,7 @@ mod port;
 use oxideav_bmp::encoder::{BmpBitfields, Picture, differential_append};
 use oxideav_bmp::image::{BmpPixelFormat, Palette};
 use oxideav_bmp::options::{CalibratedRgb, EncodeOptions};
-use port::{Lent, Options, Source};
+use port::{Lent, Options, Settings, Source};
 use std::hint::black_box;
 use std::time::Instant;
 
@@ -188,7 +188,7 @@ fn measure(w: &Work, rounds: usize) -> (Vec<Times>, String, usize) {
     let mut appended = Vec::with_capacity(bound);
     let answer = port::encode_into(source, raw, lent, &mut out, 0);
     let format = differential_append(&picture, &options, &mut appended).unwrap();
-    agreed::agreed(format, raw.bitfields_masks, &mut appended);
+    agreed::agreed(format, raw.bitfields_masks, Settings::default(), &mut appended);
     assert_eq!(answer.refusal, 0);
     assert!(out[..answer.bytes as usize] == appended[..], "{}: the files differ", w.name);
     let len = appended.len();
