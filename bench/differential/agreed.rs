@@ -75,7 +75,9 @@ pub fn agreed(format: EncodedBmpFormat, masks: [u32; 4], settings: Settings, fil
         wide_channel: is_mask_file && masks.into_iter().any(is_wide),
         resolutions: Settings { limit: settings.limit, ..Settings::default() } != settings,
     };
-    set_resolutions(file, settings);
+    if found.resolutions {
+        set_resolutions(file, settings);
+    }
     if found.image_size {
         fill_image_size(file);
     }

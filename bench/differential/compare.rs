@@ -238,6 +238,15 @@ fn check_write(
     (answer, made)
 }
 
+/// The writing call on a buffer that lacks a byte or more: the paper's 15, which says that nothing before it applies.
+fn check_short_buffer(case: &Case, zeros: &[u8], bound: u64, notes: &mut Vec<String>) {
+    let len = case.offset + (bound - 1).min(64) as usize;
+    let mut buffer = pattern(len, case.salt);
+    let given = write(case, zeros, &mut buffer, notes);
+    differ(notes, "writing call in a short buffer", RULE_AND_PORT, refused(15), given);
+    differ(notes, "buffer kept", RULE_AND_PORT, true, buffer == pattern(len, case.salt));
+}
+
 /// Both sides on one case; the inputs must come out unchanged.
 pub fn compare(case: &Case, zeros: &[u8], report: &mut Report) -> Answer {
     assert!(case.in_domain(), "outside the domain: {}", case.describe());
@@ -254,7 +263,8 @@ pub fn compare(case: &Case, zeros: &[u8], report: &mut Report) -> Answer {
         check_masks(case.options.bitfields_bpp, case.options.bitfields_masks, &mut notes);
         report.counts.add_other("mask checks");
     }
-    let answer = if case.is_large() && bound.is_ok() {
+    let answer = if let (true, Ok(bound)) = (case.is_large(), bound) {
+        check_short_buffer(case, zeros, bound, &mut notes);
         Answer::BoundOnly
     } else {
         let (answer, made) = check_write(case, zeros, &original, bound, stream, &mut notes);
@@ -340,7 +350,7 @@ pub fn port_alone(case: &Case, random: &mut Random, report: &mut Report) {
     port_refuses(&copy, &[], what, number, len, report);
 }
 
-/// The number from both calls of the port, of which 15 is the writing call's own, and an unchanged buffer of so many bytes.
+/// The number from both calls of the port, of which 15 is the writing call's own, and an unchanged buffer.
 fn port_refuses(case: &Case, zeros: &[u8], what: &'static str, number: u32, len: usize, report: &mut Report) {
     let mut buffer = pattern(len, case.salt);
     let mut notes = Vec::new();

@@ -69,7 +69,7 @@ fn exists(format: u32, mode: Mode, answer: Answer) -> bool {
 }
 
 /// Checks beside the table that must have been met.
-const OTHERS: [&str; 31] = [
+const OTHERS: [&str; 32] = [
     "at a lower limit, 14",
     "at a lower limit, 14: plain file a byte over",
     "at a lower limit, 16, Indexed4",
@@ -97,6 +97,7 @@ const OTHERS: [&str; 31] = [
     "port alone, 21: resolution down",
     "port alone, 2 before refused settings",
     "port alone, 255 before refused settings",
+    "port alone, 255: unknown format",
     "port alone, 2: height",
     "port alone, 2: width",
     "port alone, 4: palette bytes",
