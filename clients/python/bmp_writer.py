@@ -387,7 +387,8 @@ def _accepted(answer: Any) -> Any:
 
 
 def _planned(plane: Any, width: Any, height: Any, format: Any, stride: Any, palette: Any, icc: Any, linked_icc: Any, options: Any,
-             palette_rgba: Any, more_follows: Any, limit: Any, x_pels_per_meter: Any, y_pels_per_meter: Any) -> Tuple[List[Any], int]:
+             palette_rgba: Any, more_follows: Any, limit: Any, x_pels_per_meter: Any,
+             y_pels_per_meter: Any) -> Tuple[List[Any], int]:
     """The library's arguments, and the bytes that it asks for with them. Its own refusals come before that of a longer plane."""
     kind = _kind(format)
     _flag("more_follows", more_follows)

@@ -266,8 +266,8 @@ class Settings(Case):
             plane = b"\7" * 9 * BYTES_PER_PIXEL[FORMATS.index(layout)]
             usual, form = encode(plane, 9, 1, layout, **given)
             self.assertEqual(usual[38:46].hex(), "130b0000130b0000")
-            self.assertEqual(encode(plane, 9, 1, layout, limit=2 ** 32 - 1, x_pels_per_meter=2835, y_pels_per_meter=2835, **given),
-                             (usual, form))
+            same = encode(plane, 9, 1, layout, limit=2 ** 32 - 1, x_pels_per_meter=2835, y_pels_per_meter=2835, **given)
+            self.assertEqual(same, (usual, form))
             file, written = encode(plane, 9, 1, layout, x_pels_per_meter=0x01020304, y_pels_per_meter=0x7F060708, **given)
             self.assertEqual((written, file[38:46].hex()), (form, "040302010807067f"))
             self.assertEqual((file[:38], file[46:]), (usual[:38], usual[46:]))
@@ -759,7 +759,8 @@ class Errors(unittest.TestCase):
 class Package(unittest.TestCase):
     def test_the_structs_are_the_headers(self):
         here = []
-        for kind in (bmp_writer._Options, bmp_writer._Settings, bmp_writer._Source, bmp_writer._Answer, bmp_writer._Reading, bmp_writer._ReadingSizes):
+        for kind in (bmp_writer._Options, bmp_writer._Settings, bmp_writer._Source, bmp_writer._Answer, bmp_writer._Reading,
+                     bmp_writer._ReadingSizes):
             name = "bmp" + re.sub("[A-Z]", lambda letter: "_" + letter.group().lower(), kind.__name__[1:])
             here += [f"BMP_PLACE({name}, {field}, {getattr(kind, field).offset});" for field, _ in kind._fields_]
             here += [f"BMP_BYTES({name}, {ctypes.sizeof(kind)});"]

@@ -427,11 +427,7 @@ fn raw_options(options: &EncodeOptions) -> RawOptions {
 }
 
 fn raw_settings(options: &EncodeOptions) -> RawSettings {
-    RawSettings {
-        limit: options.limit,
-        x_pels_per_meter: options.x_pels_per_meter,
-        y_pels_per_meter: options.y_pels_per_meter,
-    }
+    RawSettings { limit: options.limit, x_pels_per_meter: options.x_pels_per_meter, y_pels_per_meter: options.y_pels_per_meter }
 }
 
 fn accepted(refusal: u32) -> Result<()> {

@@ -353,7 +353,10 @@ fn resolutions() {
     ] {
         let plain = options.clone().with_x_pels_per_meter(2835).with_y_pels_per_meter(2835);
         let ((mut file, format), (usual, written)) = (encode(&src, &options).unwrap(), encode(&src, &plain).unwrap());
-        assert_eq!((format, &file[38..46], &usual[38..46]), (written, &[4, 3, 2, 1, 8, 7, 6, 0x7F][..], &[0x13, 0xB, 0, 0, 0x13, 0xB, 0, 0][..]));
+        assert_eq!(
+            (format, &file[38..46], &usual[38..46]),
+            (written, &[4, 3, 2, 1, 8, 7, 6, 0x7F][..], &[0x13, 0xB, 0, 0, 0x13, 0xB, 0, 0][..])
+        );
         assert_eq!(read(&file).unwrap().cells, read(&usual).unwrap().cells);
         file[38..46].copy_from_slice(&usual[38..46]);
         assert_eq!(file, usual);
