@@ -320,7 +320,7 @@ static void limits(void) {
     shows_panel(answer);
 }
 
-/* 255, 1 and 2 stand before the settings' own numbers, and 3, 4, 12 and 14 behind them. */
+/* 255, 1 and 2 stand before the settings' own numbers, and 3 and 4 behind them. */
 static void settings_refused(void) {
     const bmp_source good = { BMP_PAL8, SIDE, SIDE, true, false, false, SIDE };
     const uint64_t most = 4294967295, over[3] = { 4294967296, 4294967297, UINT64_MAX };
