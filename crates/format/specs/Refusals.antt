@@ -35,7 +35,7 @@ unfoldable pub givenMasksRows : EncodeSource → EncodeOptions → List (Bool ×
 givenMasksRows s o =
     cond (o .«has_bitfields») (bitfieldsRows (o .bitfields .bpp) (o .bitfields .masks) ++ ((maskSource (s .format), MaskSource) ∷ [])) []
 
--- 1 to 13: picture, settings, modes, masks and plane, of a plane and a palette of so many bytes; 20 and 21 stand "directly after 2"
+-- 1 to 13 with 20 and 21 "directly after 2": picture, settings, modes, masks and plane, of a plane and a palette of so many bytes
 unfoldable pub checkRows : EncodeSource → EncodeOptions → ℕ → ℕ → List (Bool × Refusal)
 checkRows s o planeBytes paletteBytes =
     dimensionRows (s .width) (s .height)
@@ -48,10 +48,10 @@ checkRows s o planeBytes paletteBytes =
 abbrev pub callRows : Input → List (Bool × Refusal)
 callRows i = checkRows (i .source) (i .options) (length (i .plane)) (length (i .palette))
 
--- 1 to 14, which the size query gives too
+-- 1 to 14 with 20 and 21, which the size query gives too
 unfoldable pub planRows : ℕ → Input → List (Bool × Refusal)
 planRows limit i = callRows i ++ ((fileTooLarge limit i, FileTooLarge) ∷ [])
 
--- 1 to 16, of a buffer of `room` bytes
+-- 1 to 16 with 20 and 21, of a buffer of `room` bytes
 unfoldable pub writeRows : ℕ → Input → ℕ → ℕ → List (Bool × Refusal)
 writeRows limit i room offset = planRows limit i ++ ((bufferTooShort limit i room offset, BufferTooShort) ∷ (streamOverBudget limit i, StreamOverBudget) ∷ [])

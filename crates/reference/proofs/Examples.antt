@@ -21,7 +21,7 @@ use Rattle.reference.specs.Packing.{rowStride, newLayout, packMasks, zip
 use Rattle.reference.specs.Rle.{rleSlack, equal, runFrom, absTurn, absFrom, literal8, turn8, encodeRle8Row, nibble, nibbles, nibbleIf, pairTurn, literal4, turn4, encodeRle4Row, rleRow, probeFrom, rleInto}
 use Rattle.reference.specs.Headers.{extendAll, paletteEntryCount, writeFileHeader, writeDibHeaderV3, writeEntry, writeColorTable, writeDibHeaderV3Indexed, writeDibHeaderV4Bitfields, writeDibHeaderV4Calibrated, writeDibHeaderV5WithProfile, writeDibHeaderV5IndexedWithProfile}
 use Rattle.reference.specs.Plan.{writtenPaletteEntries, entryBytes, tableBytes, clrUsed, writeTable, headerLen, headLen, budgetAndBound, newSizes, tailAndSlack, sizesOf, assemble, plainIndexed, plainHead, plain, planBitfields, colourIndexed, colourHead, colourRows, planFor, newPlan, withLimit, signedStoredHeight, writeMasks, writeHeader, writeHead, patchRleHead, writePixels, writeProbed, writeInto, encodeSource}
-use Rattle.reference.specs.Compared.{Outcome, gives, outcome, refitted, refittedWord, refittedWords, withWideChannels, withImageSize, withResolutions, agreed, agreedFile, limited, boundOf, encoded, entriesIn, sourceOf, optionsOf}
+use Rattle.reference.specs.Compared.{Outcome, gives, outcome, refitted, refittedWord, refittedWords, withWideChannels, withImageSize, withResolutions, agreed, agreedFile, limitedPlan, sizeBound, encodePlan, entriesIn, sourceOf, optionsOf}
 
 row8 : encodeRle8Row [] (1 ∷ 2 ∷ 3 ∷ 7 ∷ 7 ∷ 7 ∷ 9 ∷ []) ≡ done (0 ∷ 3 ∷ 1 ∷ 2 ∷ 3 ∷ 0 ∷ 3 ∷ 7 ∷ 1 ∷ 9 ∷ [])
 unfolding encodeRle8Row turn8 literal8 runFrom absFrom absTurn equal add sub mul shl for loop at range
@@ -40,8 +40,8 @@ m12 = (refl, refl)
 -- what the transcription makes of a call, with the agreed differences
 unfoldable found : Written → Outcome (List ℕ × EncodedBmpFormat) × Outcome ℕ
 found e =
-    let plan = limited (sourceOf (e .input)) (optionsOf (e .input)) (limitIn (e .input)) in
-    (outcome (encoded plan >>= agreedFile (e .input)), outcome (boundOf plan))
+    let plan = limitedPlan (sourceOf (e .input)) (optionsOf (e .input)) (limitIn (e .input)) in
+    (outcome (encodePlan plan >>= agreedFile (e .input)), outcome (sizeBound plan))
 
 files-hold : map found files ≡ map (λ (e : Written). (gives (e .bytes, e .format), gives (e .bound))) files
 unfolding found agreed withResolutions withWideChannels refittedWords refittedWord refitted repeated fromTop count lowest withImageSize put le32 dwordAt wordAt encodeSource trailingZeros leadingZeros onesIn add mul sub div shl shr checkedAdd checkedMul clamp negated toLeBytes at store range within copyFromSlice assertEqual reserve for forEach loop validateChannel validate maskShiftLen quantise rowStride newLayout packMasks zipChunks exchanged copied3 withAlpha rowBgra32 rowBgr24 orAt index4 index2 index1 packIndices orField sample maskPixel packLayout packRow newRows sourceRow packOne packAll rleSlack equal runFrom absTurn absFrom literal8 turn8 encodeRle8Row nibble nibbles nibbleIf pairTurn literal4 turn4 encodeRle4Row rleRow probeFrom rleInto extendAll paletteEntryCount writeFileHeader writeDibHeaderV3 writeEntry writeColorTable writeDibHeaderV3Indexed writeDibHeaderV4Bitfields writeDibHeaderV4Calibrated writeDibHeaderV5WithProfile writeDibHeaderV5IndexedWithProfile writtenPaletteEntries entryBytes tableBytes clrUsed writeTable headerLen headLen budgetAndBound newSizes tailAndSlack sizesOf assemble plainIndexed plainHead plain planBitfields colourIndexed colourHead colourRows planFor newPlan withLimit signedStoredHeight writeMasks writeHeader writeHead patchRleHead writePixels writeProbed writeInto sourceOf optionsOf entriesIn tab

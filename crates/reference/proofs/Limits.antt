@@ -19,7 +19,7 @@ use Rattle.reference.specs.Types.{BmpBitfields, EncodeSource, EncodeOpti
 use Rattle.reference.specs.Bitfields.{validate}
 use Rattle.reference.specs.Packing.{packMasks, Rows, newRows}
 use Rattle.reference.specs.Plan.{Head, V3Masks, V4Calibrated, V5Profile, Sizes, Plan, maxFile, sizesOf, assemble, plainHead, plain, planBitfields, colourRows, fromBool, planFor, newPlan, withLimit}
-use Rattle.reference.specs.Compared.{Typed, limited}
+use Rattle.reference.specs.Compared.{Typed, limitedPlan}
 use Rattle.reference.proofs.PackingLaws.{packOf}
 use Rattle.reference.proofs.NewRows.{rowsFor}
 use Rattle.reference.proofs.NewPlan.{planIn, sizedIn, bind-bind}
@@ -72,7 +72,7 @@ kept-for src options none none none =
     kept-behind (newRows (src .plane) pack (src .width) (src .height) (options .«top_down»)) _ (λ rows. kept-assembled src head rows))
 
 -- so `encode_source` is `with_limit`'s case at the largest file
-pub largest : (src : EncodeSource) (options : EncodeOptions) → limited src options maxFile ≡ newPlan src options
+pub largest : (src : EncodeSource) (options : EncodeOptions) → limitedPlan src options maxFile ≡ newPlan src options
 unfolding newPlan
 largest src options =
     kept-behind (failIf (eqb (src .width) 0 || eqb (src .height) 0) zeroDimension) _ (λ a.

@@ -18,7 +18,7 @@ use Rattle.planner.specs.declared.encoder.Encoded.{Encoded}
 use Rattle.planner.specs.declared.plan.SizeBound.{SizeBound}
 use Rattle.planner.specs.Answers.{bytesFor, formatFor, laterFor, boundFor, Written, Sized}
 use Rattle.reference.specs.Rust.{_>>=_}
-use Rattle.reference.specs.Compared.{sourceOf, optionsOf, outcome, answer, agreedFile, Typed, Domain, limited, boundOf as boundRun, encoded, fileRows}
+use Rattle.reference.specs.Compared.{sourceOf, optionsOf, outcome, answer, agreedFile, Typed, Domain, limitedPlan, sizeBound, encodePlan, fileRows}
 use Rattle.reference.specs.PortCalls.{WritesAs, BoundsAs}
 use Rattle.reference.proofs.Theorem.{same-answers}
 
@@ -40,7 +40,7 @@ without-15 i room offset not-15 =
 module _ (i : Input) (ok : Typed i) (domain : Domain i) where
   -- `encode_into` writes what the original writes, with the agreed differences
   pub writes-as : (offset : ℕ) (was later : List ℕ) (r : Encoded) → (firstNumber (writeRows (limitIn i) i (length was) offset) ≡ 15 → ⊥) → Written i offset was later r
-      → WritesAs (outcome (encoded (limited (sourceOf i) (optionsOf i) (limitIn i)) >>= agreedFile i)) offset was later r
+      → WritesAs (outcome (encodePlan (limitedPlan (sourceOf i) (optionsOf i) (limitIn i)) >>= agreedFile i)) offset was later r
   writes-as offset was later r not-15 w = subst (λ o. WritesAs o offset was later r) (sym (same-answers i ok domain .file)) (go (firstOf (fileRows i)) (without-15 i (length was) offset not-15))
     where
       go : (c : Check) → firstOf (writeRows (limitIn i) i (length was) offset) ≡ c → WritesAs (answer c (fileOf (limitIn i) i, formatOf (limitIn i) i)) offset was later r
@@ -49,7 +49,7 @@ module _ (i : Input) (ok : Typed i) (domain : Domain i) where
       go (Refused why) e = (w .number ∙ ap checkNumber e, w .buffer ∙ ap (λ c. laterFor c i offset was) e)
 
   -- `encoded_size_bound` gives the original's bound
-  pub bounds-as : (r : SizeBound) → Sized i r → BoundsAs (outcome (boundRun (limited (sourceOf i) (optionsOf i) (limitIn i)))) r
+  pub bounds-as : (r : SizeBound) → Sized i r → BoundsAs (outcome (sizeBound (limitedPlan (sourceOf i) (optionsOf i) (limitIn i)))) r
   bounds-as r s = subst (λ o. BoundsAs o r) (sym (same-answers i ok domain .bound)) (go (firstOf (planRows (limitIn i) i)) refl)
     where
       go : (c : Check) → firstOf (planRows (limitIn i) i) ≡ c → BoundsAs (answer c (boundOf (limitIn i) i)) r

@@ -18,7 +18,7 @@ use Rattle.format.proofs.Acceptance.{Checked, checked, plan-passed}
 use Rattle.format.proofs.Passing.{first-parts, and-false}
 use Rattle.reference.specs.Rust.{Run, done, _>>=_, rleOverLimit}
 use Rattle.reference.specs.Plan.{Plan, maxFile, wrote, refused, appended, withLimit, writeInto, encodeSource}
-use Rattle.reference.specs.Compared.{sourceOf, optionsOf, outcome, answer, agreed, sizeOf, agreedFile, agreedBehind, Typed, Domain, limited, boundOf as boundRun, behind, encoded, fileRows, SameAnswers, SameAsSource}
+use Rattle.reference.specs.Compared.{sourceOf, optionsOf, outcome, answer, agreed, sizeOf, agreedFile, agreedBehind, Typed, Domain, limitedPlan, sizeBound, encodeBehind, encodePlan, fileRows, SameAnswers, SameAsSource}
 use Rattle.reference.proofs.Original.{originalFile}
 use Rattle.reference.proofs.Bridge.{bridge, same-length}
 use Rattle.reference.proofs.PackingLaws.{packOf}
@@ -54,7 +54,7 @@ module _ (i : Input) (ok : Typed i) (domain : Domain i) where
 
   -- what `Plan::new` and then `with_limit` are asked
   abbrev run : Run Plan
-  run = limited (sourceOf i) (optionsOf i) (limitIn i)
+  run = limitedPlan (sourceOf i) (optionsOf i) (limitIn i)
 
   -- they follow the rows 1 to 14
   plan-follows : Follows (planRows (limitIn i) i) run (done made)
@@ -63,7 +63,7 @@ module _ (i : Input) (ok : Typed i) (domain : Domain i) where
       follow.then (callRows i) ((fileTooLarge (limitIn i) i, FileTooLarge) ∷ []) _ _ _ (follow.on (callRows i) _ _ (λ p. withLimit p (limitIn i)) (new-plan i ok domain))
       (λ p. let k = checked i p in limited-follow i ok k (limitIn i) (k .limited))
 
-  bound-follows : Follows (planRows (limitIn i) i) (boundRun run) (done (boundOf (limitIn i) i))
+  bound-follows : Follows (planRows (limitIn i) i) (sizeBound run) (done (boundOf (limitIn i) i))
   bound-follows = follow.on (planRows (limitIn i) i) _ _ (λ plan. done (plan .sizes .bound)) plan-follows
 
   -- the file is written behind what `out` holds
@@ -75,7 +75,7 @@ module _ (i : Input) (ok : Typed i) (domain : Domain i) where
   document-is p = bridge i ok (plan-passed i p .0) (limitIn i)
 
   behind-follows : (out : List ℕ) → (firstOf (planRows (limitIn i) i) ≡ Passed → length out + boundOf (limitIn i) i < 2 ^ 63)
-      → Follows (planRows (limitIn i) i) (behind run out >>= agreedBehind i out) (done (cond (streamOverBudget (limitIn i) i) (refused rleOverLimit out) (wrote (formatOf (limitIn i) i) (out ++ fileOf (limitIn i) i))))
+      → Follows (planRows (limitIn i) i) (encodeBehind run out >>= agreedBehind i out) (done (cond (streamOverBudget (limitIn i) i) (refused rleOverLimit out) (wrote (formatOf (limitIn i) i) (out ++ fileOf (limitIn i) i))))
   behind-follows out room =
       follow.to (planRows (limitIn i) i) _ _ _ (follow.on (planRows (limitIn i) i) _ _ (agreedBehind i out) (follow.on (planRows (limitIn i) i) _ _ (λ plan. writeInto plan out) plan-follows))
       (λ p. ap (λ r. r >>= agreedBehind i out) (written-is p out (room p)) ∙ go (streamOverBudget (limitIn i) i) ∙ ap (λ x. done (cond (streamOverBudget (limitIn i) i) (refused rleOverLimit out) (wrote (formatOf (limitIn i) i) (out ++ x)))) (document-is p))
@@ -86,7 +86,7 @@ module _ (i : Input) (ok : Typed i) (domain : Domain i) where
       go false = rw (take-append-seam out (originalFile (limitIn i) i), drop-append-seam out (originalFile (limitIn i) i))
 
   -- the file as the original itself writes it
-  own-follows : Follows (fileRows i) (encoded run) (done (originalFile (limitIn i) i, formatOf (limitIn i) i))
+  own-follows : Follows (fileRows i) (encodePlan run) (done (originalFile (limitIn i) i, formatOf (limitIn i) i))
   unfolding fileRows
   own-follows =
       let over = streamOverBudget (limitIn i) i in
@@ -101,17 +101,17 @@ module _ (i : Input) (ok : Typed i) (domain : Domain i) where
   unfolding fileRows
   passed-plan p = first-parts (planRows (limitIn i) i) ((streamOverBudget (limitIn i) i, StreamOverBudget) ∷ []) p .0
 
-  size-follows : Follows (fileRows i) (encoded run >>= sizeOf) (done (length (fileOf (limitIn i) i), formatOf (limitIn i) i))
+  size-follows : Follows (fileRows i) (encodePlan run >>= sizeOf) (done (length (fileOf (limitIn i) i), formatOf (limitIn i) i))
   size-follows =
       follow.to (fileRows i) _ _ _ (follow.on (fileRows i) _ _ sizeOf own-follows)
       (λ p. ap (λ n. done (n, formatOf (limitIn i) i)) (same-length i ok (plan-passed i (passed-plan p) .0) (limitIn i)))
 
-  file-follows : Follows (fileRows i) (encoded run >>= agreedFile i) (done (fileOf (limitIn i) i, formatOf (limitIn i) i))
+  file-follows : Follows (fileRows i) (encodePlan run >>= agreedFile i) (done (fileOf (limitIn i) i, formatOf (limitIn i) i))
   file-follows =
       follow.to (fileRows i) _ _ _ (follow.on (fileRows i) _ _ (agreedFile i) own-follows) (λ p. ap (λ x. done (x, formatOf (limitIn i) i)) (document-is (passed-plan p)))
 
   -- the original's own file, before the agreed differences
-  pub own-answer : outcome (encoded run) ≡ answer (firstOf (fileRows i)) (originalFile (limitIn i) i, formatOf (limitIn i) i)
+  pub own-answer : outcome (encodePlan run) ≡ answer (firstOf (fileRows i)) (originalFile (limitIn i) i, formatOf (limitIn i) i)
   own-answer = follow.answered (fileRows i) _ _ own-follows
 
   -- bound, length, file, format and refusal
@@ -121,7 +121,7 @@ module _ (i : Input) (ok : Typed i) (domain : Domain i) where
         bound = follow.answered (planRows (limitIn i) i) _ _ bound-follows;
         size = follow.answered (fileRows i) _ _ size-follows;
         file = follow.answered (fileRows i) _ _ file-follows;
-        appends = λ out room. follow.answered (planRows (limitIn i) i) _ _ (behind-follows out room);
+        behind = λ out room. follow.answered (planRows (limitIn i) i) _ _ (behind-follows out room);
       }
 
   -- `encode_source` has no other limit than the largest file: for that one it is compared itself
@@ -129,6 +129,6 @@ module _ (i : Input) (ok : Typed i) (domain : Domain i) where
   unfolding encodeSource
   same-as-source e =
       record {
-        answers = subst (SameAnswers i) (ap (limited (sourceOf i) (optionsOf i)) e ∙ largest (sourceOf i) (optionsOf i)) same-answers;
+        answers = subst (SameAnswers i) (ap (limitedPlan (sourceOf i) (optionsOf i)) e ∙ largest (sourceOf i) (optionsOf i)) same-answers;
         returned = refl;
       }

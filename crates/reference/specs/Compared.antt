@@ -222,20 +222,20 @@ pub record Typed (i : Input) : Type 0 where
   pub three-gammas : length (i .options .«calibrated_rgb» .gamma) ≡ 3
 
 -- `encoded_size_bound`, of a plan
-abbrev pub boundOf : Run Plan → Run ℕ
-boundOf plan = plan >>= λ p. done (p .sizes .bound)
+abbrev pub sizeBound : Run Plan → Run ℕ
+sizeBound plan = plan >>= λ p. done (p .sizes .bound)
 
 -- `encode_into`, of a plan: the file behind what stands in `out`
-abbrev pub behind : Run Plan → List ℕ → Run Appended
-behind plan out = plan >>= λ p. writeInto p out
+abbrev pub encodeBehind : Run Plan → List ℕ → Run Appended
+encodeBehind plan out = plan >>= λ p. writeInto p out
 
 -- `encode_source`, of a plan
-abbrev pub encoded : Run Plan → Run (List ℕ × EncodedBmpFormat)
-encoded plan = plan >>= λ p. writeInto p [] >>= appended
+abbrev pub encodePlan : Run Plan → Run (List ℕ × EncodedBmpFormat)
+encodePlan plan = plan >>= λ p. writeInto p [] >>= appended
 
 -- "The Rust comparison uses `with_limit`" (document 02, A.5): `Plan::new(..)?.with_limit(limit)?`
-abbrev pub limited : EncodeSource → EncodeOptions → ℕ → Run Plan
-limited src options limit = newPlan src options >>= λ p. withLimit p limit
+abbrev pub limitedPlan : EncodeSource → EncodeOptions → ℕ → Run Plan
+limitedPlan src options limit = newPlan src options >>= λ p. withLimit p limit
 
 -- the rows of the writing call without 15
 unfoldable pub fileRows : Input → List (Bool × Refusal)
@@ -244,15 +244,15 @@ fileRows i = planRows (document.limitIn i) i ++ ((streamOverBudget (document.lim
 -- Bound, length, file (with the agreed differences), format and refusal, with its kind, are the document's, and nothing panics. Where `out` has room for the bound of a plan in a Vec, the file stands
 -- behind what `out` held, and the one Err that `write_into` returns leaves `out` as it was; where there is no plan, no room is asked for.
 pub record SameAnswers (i : Input) (plan : Run Plan) : Type 0 where
-  pub bound : outcome (boundOf plan) ≡ answer (firstOf (planRows (document.limitIn i) i)) (document.boundOf (document.limitIn i) i)
-  pub size : outcome (encoded plan >>= sizeOf) ≡ answer (firstOf (fileRows i)) (length (document.fileOf (document.limitIn i) i), document.formatOf (document.limitIn i) i)
-  pub file : outcome (encoded plan >>= agreedFile i) ≡ answer (firstOf (fileRows i)) (document.fileOf (document.limitIn i) i, document.formatOf (document.limitIn i) i)
-  pub appends : (out : List ℕ) → (firstOf (planRows (document.limitIn i) i) ≡ check.Passed → length out + document.boundOf (document.limitIn i) i < 2 ^ 63)
-      → outcome (behind plan out >>= agreedBehind i out)
+  pub bound : outcome (sizeBound plan) ≡ answer (firstOf (planRows (document.limitIn i) i)) (document.boundOf (document.limitIn i) i)
+  pub size : outcome (encodePlan plan >>= sizeOf) ≡ answer (firstOf (fileRows i)) (length (document.fileOf (document.limitIn i) i), document.formatOf (document.limitIn i) i)
+  pub file : outcome (encodePlan plan >>= agreedFile i) ≡ answer (firstOf (fileRows i)) (document.fileOf (document.limitIn i) i, document.formatOf (document.limitIn i) i)
+  pub behind : (out : List ℕ) → (firstOf (planRows (document.limitIn i) i) ≡ check.Passed → length out + document.boundOf (document.limitIn i) i < 2 ^ 63)
+      → outcome (encodeBehind plan out >>= agreedBehind i out)
       ≡ answer (firstOf (planRows (document.limitIn i) i))
       (cond (streamOverBudget (document.limitIn i) i) (refused rleOverLimit out) (wrote (document.formatOf (document.limitIn i) i) (out ++ document.fileOf (document.limitIn i) i)))
 
 -- `encode_source` itself, which knows no limit but the largest file: its plan, and what it returns
 pub record SameAsSource (i : Input) : Type 0 where
   pub answers : SameAnswers i (newPlan (sourceOf i) (optionsOf i))
-  pub returned : encoded (newPlan (sourceOf i) (optionsOf i)) ≡ encodeSource (sourceOf i) (optionsOf i)
+  pub returned : encodePlan (newPlan (sourceOf i) (optionsOf i)) ≡ encodeSource (sourceOf i) (optionsOf i)
