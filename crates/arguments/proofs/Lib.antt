@@ -1,4 +1,3 @@
 pub mod OptionLaws
 pub mod Pieces
-pub mod Signs
 pub mod Examples

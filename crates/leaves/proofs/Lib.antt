@@ -7,6 +7,7 @@ pub mod Overlap
 pub mod Puts
 pub mod Repeating
 pub mod Runs
+pub mod Signs
 pub mod TableCounts
 pub mod TableRule
 pub mod Tests

@@ -11,6 +11,7 @@ use lib.Signed.{mag, ltZ, nonNeg}
 use mir.Syntax.{w32}
 use mir.Val.{Fits, SFits, ofZ, toZ}
 use mir.Facts.{toZ-ofZ}
+use Rattle.leaves.proofs.Signs.{read-back}
 
 -- what the code computes below 0, as the machine has it
 abbrev up : ℤ → ℤ
@@ -76,10 +77,6 @@ high (pos n) f e =
     record { cast = rw (toZ-ofZ f) (tt, record { fits = omega arith }); bits = rw (toZ-ofZ f) refl }
 high (negsuc n) f e = let q : ltZ (negsuc n) (pos 0) ≡ false = rw (toZ-ofZ f) at e in let z : _≡_ {A = ℕ} 0 1 = cc in absurd (omega arith)
 
--- the machine's form of a number is the number
-pub long-is : (z : ℤ) → mag z < 2147483648 → toZ w32 (ofZ w32 z) ≡ z
-long-is z h = let f : SFits w32 z = record { sfits = h } in toZ-ofZ f
-
--- so is what is computed of it
+-- what is computed of the machine's form of a number
 pub long-of : (z : ℤ) (r : ℕ) → mag z < 2147483648 → r ≡ ofZ w32 (toZ w32 (ofZ w32 z)) → r ≡ ofZ w32 z
-long-of z r h e = e ∙ ap (ofZ w32) (long-is z h)
+long-of z r h e = e ∙ ap (ofZ w32) (read-back z z h refl)

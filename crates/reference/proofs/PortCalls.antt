@@ -10,7 +10,7 @@ use Rattle.leaves.specs.declared.error.Refusal.{Refusal}
 use Rattle.leaves.specs.declared.error.Refusal.the-variants.{BufferTooShort, StreamOverBudget}
 use Rattle.leaves.specs.Refusals.{checkNumber, firstOf, firstNumber, orElse}
 use Rattle.leaves.proofs.FirstOf.{first-or}
-use Rattle.format.specs.File.{limitIn, fileOf, boundOf, formatOf}
+use Rattle.format.specs.File.{limitIn, maxFile, fileOf, boundOf, formatOf}
 use Rattle.format.specs.Input.{Input}
 use Rattle.format.specs.Refusals.{planRows, bufferTooShort, streamOverBudget, writeRows}
 use Rattle.format.proofs.HeadFields.{length-file}
@@ -18,9 +18,10 @@ use Rattle.planner.specs.declared.encoder.Encoded.{Encoded}
 use Rattle.planner.specs.declared.plan.SizeBound.{SizeBound}
 use Rattle.planner.specs.Answers.{bytesFor, formatFor, laterFor, boundFor, Written, Sized}
 use Rattle.reference.specs.Rust.{_>>=_}
+use Rattle.reference.specs.Plan.{newPlan, encodeSource}
 use Rattle.reference.specs.Compared.{sourceOf, optionsOf, outcome, answer, agreedFile, Typed, Domain, limitedPlan, sizeBound, encodePlan, fileRows}
 use Rattle.reference.specs.PortCalls.{WritesAs, BoundsAs}
-use Rattle.reference.proofs.Theorem.{same-answers}
+use Rattle.reference.proofs.Theorem.{same-plan, same-answers}
 
 -- where 15 is not the answer, the writing call's rows decide as those of the file
 without-15 : (i : Input) (room offset : ℕ) → (firstNumber (writeRows (limitIn i) i room offset) ≡ 15 → ⊥) → firstOf (writeRows (limitIn i) i room offset) ≡ firstOf (fileRows i)
@@ -55,3 +56,13 @@ module _ (i : Input) (ok : Typed i) (domain : Domain i) where
       go : (c : Check) → firstOf (planRows (limitIn i) i) ≡ c → BoundsAs (answer c (boundOf (limitIn i) i)) r
       go Passed e = (s .number ∙ ap checkNumber e, s .bytes ∙ ap (λ c. boundFor c i) e)
       go (Refused why) e = s .number ∙ ap checkNumber e
+
+  -- a call with the largest limit: what `encode_source` and its plan themselves give
+  module _ (e : limitIn i ≡ maxFile) where
+    pub writes-as-source : (offset : ℕ) (was later : List ℕ) (r : Encoded) → (firstNumber (writeRows (limitIn i) i (length was) offset) ≡ 15 → ⊥) → Written i offset was later r
+        → WritesAs (outcome (encodeSource (sourceOf i) (optionsOf i) >>= agreedFile i)) offset was later r
+    unfolding encodeSource
+    writes-as-source offset was later r not-15 w = subst (λ plan. WritesAs (outcome (encodePlan plan >>= agreedFile i)) offset was later r) (same-plan i ok domain e) (writes-as offset was later r not-15 w)
+
+    pub bounds-as-source : (r : SizeBound) → Sized i r → BoundsAs (outcome (sizeBound (newPlan (sourceOf i) (optionsOf i)))) r
+    bounds-as-source r s = subst (λ plan. BoundsAs (outcome (sizeBound plan)) r) (same-plan i ok domain e) (bounds-as r s)

@@ -17,7 +17,7 @@ use Rattle.format.specs.Refusals.{callRows, fileTooLarge, planRows, streamOverB
 use Rattle.format.proofs.Acceptance.{Checked, checked, plan-passed}
 use Rattle.format.proofs.Passing.{first-parts, and-false}
 use Rattle.reference.specs.Rust.{Run, done, _>>=_, rleOverLimit}
-use Rattle.reference.specs.Plan.{Plan, maxFile, wrote, refused, appended, withLimit, writeInto, encodeSource}
+use Rattle.reference.specs.Plan.{Plan, maxFile, wrote, refused, appended, newPlan, withLimit, writeInto, encodeSource}
 use Rattle.reference.specs.Compared.{sourceOf, optionsOf, outcome, answer, agreed, sizeOf, agreedFile, agreedBehind, Typed, Domain, limitedPlan, sizeBound, encodeBehind, encodePlan, fileRows, SameAnswers, SameAsSource}
 use Rattle.reference.proofs.Original.{originalFile}
 use Rattle.reference.proofs.Bridge.{bridge, same-length}
@@ -125,10 +125,13 @@ module _ (i : Input) (ok : Typed i) (domain : Domain i) where
       }
 
   -- `encode_source` has no other limit than the largest file: for that one it is compared itself
+  pub same-plan : limitIn i ≡ maxFile → run ≡ newPlan (sourceOf i) (optionsOf i)
+  same-plan e = ap (limitedPlan (sourceOf i) (optionsOf i)) e ∙ largest (sourceOf i) (optionsOf i)
+
   pub same-as-source : limitIn i ≡ maxFile → SameAsSource i
   unfolding encodeSource
   same-as-source e =
       record {
-        answers = subst (SameAnswers i) (ap (limitedPlan (sourceOf i) (optionsOf i)) e ∙ largest (sourceOf i) (optionsOf i)) same-answers;
+        answers = subst (SameAnswers i) (same-plan e) same-answers;
         returned = refl;
       }

@@ -9,7 +9,7 @@ use Rattle.leaves.specs.declared.options.CalibratedRgb.{CalibratedRgb}
 use Rattle.arguments.specs.Options.{calibratedAsked}
 use Rattle.arguments.specs.Numbers.{number32, signed32}
 use Rattle.arguments.specs.Words.{itemsOf, itemAt}
-use Rattle.arguments.proofs.Signs.{read-back}
+use Rattle.leaves.proofs.Signs.{read-back}
 use Rattle.arguments.proofs.options.calibrated_asked.Statement.{statement}
 use Rattle.arguments.proofs.options.calibrated_asked.Tie as tie
 

@@ -2,7 +2,7 @@ use mathlib.Core.Path.{ap, _∙_}
 use native.Mathlib.Omega.{arith}
 use Rattle.arguments.specs.Numbers.{signed32}
 use Rattle.arguments.specs.Words.{itemsOf, itemAt}
-use Rattle.arguments.proofs.Signs.{read-back}
+use Rattle.leaves.proofs.Signs.{read-back}
 use Rattle.arguments.proofs.options.endpoint.Statement.{statement}
 use Rattle.arguments.proofs.options.endpoint.Tie as tie
 

@@ -12,7 +12,7 @@ use Rattle.leaves.specs.declared.bitfields.BmpBitfields.{BmpBitfields}
 use Rattle.arguments.specs.Options.{optionNames, optionNamed, isGiven, valueOf, masksAsked, calibratedAsked, intentAsked, numberAsked, pelsAsked, optionsAsked}
 use Rattle.arguments.specs.Words.{upTo, placeAmong, alike, wordsOf}
 use Rattle.leaves.specs.Texts.{bytesOf}
-use Rattle.arguments.proofs.Signs.{read-back}
+use Rattle.leaves.proofs.Signs.{read-back}
 use Rattle.arguments.proofs.options.options_asked.Statement.{statement}
 use Rattle.arguments.proofs.options.options_asked.Tie as tie
 

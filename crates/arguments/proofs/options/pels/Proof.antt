@@ -8,7 +8,7 @@ use Rattle.leaves.specs.Texts.{bytesOf}
 use Rattle.arguments.specs.Options.{optionNames, optionNamed, isGiven, valueOf, pelsAsked}
 use Rattle.arguments.specs.Words.{upTo, placeAmong, alike, itemsOf, itemAt, wordsOf}
 use Rattle.arguments.specs.Numbers.{signed32}
-use Rattle.arguments.proofs.Signs.{read-back}
+use Rattle.leaves.proofs.Signs.{read-back}
 use Rattle.arguments.proofs.options.pels.Statement.{statement}
 use Rattle.arguments.proofs.options.pels.Tie as tie
 

@@ -1,4 +1,4 @@
-use mathlib.Core.Path.{ap, _∙_}
+use mathlib.Core.Path.{refl, ap, _∙_}
 use mathlib.Core.Bool.{Bool}
 use mathlib.Core.List.{_++_}
 use Prim.Native.Nat.{ℕ}
@@ -6,7 +6,7 @@ use Rattle.leaves.specs.Formats.{isIndexed, bytesPerPixel}
 use Rattle.leaves.specs.Refusals.{firstOf, profileMode, dimensionRows, settingsRows, paletteRows, modeRows, planeRows}
 use Rattle.format.specs.Refusals.{givenMasksRows, checkRows}
 use Rattle.leaves.proofs.FirstOf.{first-next}
-use Rattle.planner.proofs.Longs.{long-is}
+use Rattle.leaves.proofs.Signs.{read-back}
 use borrow.Author.Needs.{needs}
 use Rattle.planner.proofs.plan.checks.Statement.{statement}
 use Rattle.planner.proofs.plan.checks.Tie as tie
@@ -64,8 +64,8 @@ returns c =
     let n = start .args .palette-bytes in
     let m = start .args .plane-bytes in
     let settings = palette .before .before .check-settings in
-    let x = long-is (o .«x_pels_per_meter») (palette .before .before .before .before .struct-told .given .1 .1 .1 .1 .1 .1 .1 .1 .1 .1 .0 .1) in
-    let y = long-is (o .«y_pels_per_meter») (palette .before .before .before .struct-told2 .given .1 .1 .1 .1 .1 .1 .1 .1 .1 .1 .1 .0 .1) in
+    let x = read-back (o .«x_pels_per_meter») (o .«x_pels_per_meter») (palette .before .before .before .before .struct-told .given .1 .1 .1 .1 .1 .1 .1 .1 .1 .1 .0 .1) refl in
+    let y = read-back (o .«y_pels_per_meter») (o .«y_pels_per_meter») (palette .before .before .before .struct-told2 .given .1 .1 .1 .1 .1 .1 .1 .1 .1 .1 .1 .0 .1) refl in
     let indexed = palette .before .is-indexed in
     let mode = c .before .before .before .before .before .before .before .check-modes in
     let mask = c .before .before .before .before .before .before .check-masks in
