@@ -3,8 +3,8 @@
 ghost use mathlib.Core.Path.{_≡_};
 ghost use mathlib.Core.List.{[], _∷_};
 ghost use Rattle.leaves.specs.Masks.{bitfieldsRows};
-ghost use Rattle.leaves.specs.Refusals.{firstNumber};
-ghost use Rattle.reader.specs.Refusals.{firstApplying, openRows};
+ghost use Rattle.leaves.specs.Refusals.{firstNumber, firstApplying};
+ghost use Rattle.reader.specs.Refusals.{openRows};
 ghost use Rattle.reader.specs.Answers.{sizesFor};
 ghost use Rattle.capi.specs.Interface.{formatAt, defaultSettings, sourceOf, optionsOf, encodedAnswer, boundAnswer, EncodePromise, BoundPromise};
 ghost use Rattle.capi.specs.Reading.{readingAnswer, sizesAnswer, ReadPromise};

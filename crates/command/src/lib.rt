@@ -2,9 +2,10 @@
 // another program, reads and writes the files. `clients/c/bmp_command.h` declares the same.
 ghost use mathlib.Core.Path.{_≡_};
 ghost use Rattle.arguments.specs.Words.{wordsOf};
+ghost use Rattle.leaves.specs.Refusals.{firstApplying};
 ghost use Rattle.messages.specs.Messages.{Says};
 ghost use Rattle.reader.specs.Answers.{sizesFor};
-ghost use Rattle.reader.specs.Refusals.{firstApplying, openRows};
+ghost use Rattle.reader.specs.Refusals.{openRows};
 ghost use Rattle.command.specs.Commands.{fileNamed};
 ghost use Rattle.command.specs.Runs.{Checked, Ran};
 ghost use Rattle.command.specs.SheetReads.{lentSizes, ReadRan};

@@ -51,6 +51,11 @@ orElse (Refused why) next = Refused why
 abbrev pub firstNumber : List (Bool × Refusal) → ℕ
 firstNumber rows = checkNumber (firstOf rows)
 
+-- the same of rows that name their number itself, as document 02's do
+abbrev pub firstApplying : List (Bool × ℕ) → ℕ
+firstApplying [] = 0
+firstApplying (row ∷ rows) = cond (row .0) (row .1) (firstApplying rows)
+
 -- 1: "width or height is 0"
 abbrev pub zeroDimension : ℕ → ℕ → Bool
 zeroDimension width height = eqb width 0 || eqb height 0

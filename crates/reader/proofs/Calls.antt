@@ -10,6 +10,7 @@ use borrow.Author.Tests.{ltb-false, le-leb, eqb-true}
 use lib.Dec.{ltb, leb, eqb}
 use lib.ListN.{length, getD, take, drop, length-take}
 use Rattle.leaves.specs.Put.{put}
+use Rattle.leaves.specs.Refusals.{firstApplying}
 use Rattle.leaves.specs.Sizes.{rowStride}
 use Rattle.format.specs.Decode.{decode}
 use Rattle.format.specs.Readers.{Fields, fieldsOf, wordAt, dwordAt, shownHeight, tableCount, rowLength}
@@ -19,7 +20,7 @@ use Rattle.reader.specs.declared.read.Reading.{Reading}
 use Rattle.reader.specs.declared.read.ReadingSizes.{ReadingSizes}
 use Rattle.reader.specs.Answers.{sizesFor, refusedReading, rowsShown, rowsIn, Outcome, Read}
 use Rattle.reader.specs.Numbers.{numbersOf, numbersEach, cellCount, headBytes, headIn, tableBytes, tableIn, profileAt, profileBytes}
-use Rattle.reader.specs.Refusals.{writtenPair, isCoded, neverWritten, outsideFile, buffersTooShort, streamFails, firstApplying, openRows, readRows}
+use Rattle.reader.specs.Refusals.{writtenPair, isCoded, neverWritten, outsideFile, buffersTooShort, streamFails, openRows, readRows}
 use Rattle.reader.specs.Rows.{plainNumbers, streamNumbers, WrittenKind}
 use Rattle.cells.specs.Streams.{cellsIn}
 use Rattle.reader.proofs.Heads.{Sound}

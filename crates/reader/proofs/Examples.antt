@@ -3,10 +3,11 @@ use mathlib.Core.Path.{_≡_, refl}
 use mathlib.Core.Bool.{Bool, true, false}
 use mathlib.Core.List.{List, [], _∷_}
 use Prim.Native.Nat.{ℕ}
+use Rattle.leaves.specs.Refusals.{firstApplying}
 use Rattle.format.specs.Decode.{dataRead}
 use Rattle.format.specs.Readers.{wordAt, dwordAt, fieldsOf, tableCount, rowLength}
 use Rattle.reader.specs.Numbers.{hasProfile, profileBytes, profileAt}
-use Rattle.reader.specs.Refusals.{masksOf, neverWritten, outsideFile, stops, firstApplying, openRows}
+use Rattle.reader.specs.Refusals.{masksOf, neverWritten, outsideFile, stops, openRows}
 
 -- "each test made only where every field it needs lies whole in the file": 'XM' is 17, 'X' is 18, and so is 'BM'
 marks-hold : (firstApplying (openRows (88 ∷ 77 ∷ [])) ≡ 17) × ((firstApplying (openRows (88 ∷ [])) ≡ 18) × ((firstApplying (openRows (66 ∷ 77 ∷ [])) ≡ 18) × (firstApplying (openRows []) ≡ 18)))

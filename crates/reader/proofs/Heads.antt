@@ -11,14 +11,14 @@ use lib.Dec.{ltb, leb, eqb}
 use lib.ListN.{length, drop}
 use lib.Pow.{pow-mono}
 use Rattle.leaves.specs.Masks.{bitfieldsRows}
-use Rattle.leaves.specs.Refusals.{firstNumber}
+use Rattle.leaves.specs.Refusals.{firstNumber, firstApplying}
 use Rattle.leaves.specs.Sizes.{hasTable, rowStride}
 use Rattle.format.specs.Readers.{Fields, fieldsOf, wordAt, topFirst, shownHeight, tableCount}
 use Rattle.format.proofs.Passing.{or-false, and-false}
 use Rattle.format.proofs.PlainCells.{length-row}
 use Rattle.cells.proofs.CellLaws.{or-true, table-cases}
 use Rattle.reader.specs.Numbers.{profileBytes, profileAt}
-use Rattle.reader.specs.Refusals.{strangeMark, strangeHeader, noWidth, noHeight, strangeDepth, strangeCompression, strangePair, negativeStream, manyColours, strangeSizes, strangeKind, writtenPair, isCoded, masksOf, masksEnd, refusedMasks, strangeMasks, neverWritten, outsideFile, firstApplying, openRows}
+use Rattle.reader.specs.Refusals.{strangeMark, strangeHeader, noWidth, noHeight, strangeDepth, strangeCompression, strangePair, negativeStream, manyColours, strangeSizes, strangeKind, writtenPair, isCoded, masksOf, masksEnd, refusedMasks, strangeMasks, neverWritten, outsideFile, openRows}
 
 -- ---- tests
 

@@ -4,13 +4,14 @@ use mathlib.Core.Path.{_≡_}
 use mathlib.Core.List.{List, []}
 use lib.ListN.{length, take, drop}
 use Rattle.leaves.specs.Put.{put}
+use Rattle.leaves.specs.Refusals.{firstApplying}
 use Rattle.format.specs.Readers as Readers
 use Rattle.format.specs.Readers.{fieldsOf, newer, shows, refuses, read, shownHeight}
 use Rattle.format.specs.Shown.{Cell, Shown}
 use Rattle.reader.specs.declared.read.Reading.{Reading}
 use Rattle.reader.specs.declared.read.ReadingSizes.{ReadingSizes}
 use Rattle.reader.specs.Numbers.{numbersOf, headBytes, headIn, tableBytes, tableIn, cellCount, profileAt, profileBytes}
-use Rattle.reader.specs.Refusals.{firstApplying, readRows}
+use Rattle.reader.specs.Refusals.{readRows}
 
 -- ---- the sizes
 

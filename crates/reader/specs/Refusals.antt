@@ -10,11 +10,6 @@ use Rattle.format.specs.Decode.{Decoded, filled, refused, dataRead}
 use Rattle.format.specs.Readers.{Fields, fieldsOf, wordAt, dwordAt, shownHeight, rowLength}
 use Rattle.reader.specs.Numbers.{headBytes, tableBytes, cellCount, profileBytes, profileAt}
 
--- the first row whose test holds decides; 0 where none does
-abbrev pub firstApplying : List (Bool × ℕ) → ℕ
-firstApplying [] = 0
-firstApplying (row ∷ rows) = cond (row .0) (row .1) (firstApplying rows)
-
 -- ---- 17: what the writer never writes. "each test made only where every field it needs lies whole in the file": in a file of n bytes
 
 -- 'BM'

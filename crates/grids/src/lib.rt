@@ -1,0 +1,2 @@
+// What happens to a grid before it is written.
+pub mod scale;
