@@ -50,14 +50,14 @@ fn spread(edges: &[f64], ends: &mut [f64; 16], blocks: &mut [f64; 256])
     requires { ⌜ (length (now ends) ≡ 16) × (length (now blocks) ≡ 256) ⌝ }
     ensures { λ _. ⌜ Spread (now (edges .entry)) (now (ends .exit)) (now (blocks .exit)) ⌝ }
 {
-    let nan = 0.0 / 0.0;
+    let padding = 0.0 / 0.0;
     let n = edges.len();
     let mut k = 0;
     while k < 256 {
         if k < n {
             blocks[k] = edges[k];
         } else {
-            blocks[k] = nan;
+            blocks[k] = padding;
         }
         k += 1;
     }

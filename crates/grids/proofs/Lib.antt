@@ -1,0 +1,4 @@
+pub mod FloatOrder
+pub mod Placing
+pub mod Scales
+pub mod Shades
