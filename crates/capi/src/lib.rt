@@ -1,4 +1,4 @@
-// The writer and the reader for callers from C: structs and numbers instead of enums. `clients/c/bmp_writer.h` declares the
+// The writer, the reader and what paints a grid for callers from C: structs and numbers instead of enums. `clients/c/bmp_writer.h` declares the
 // same.
 ghost use mathlib.Core.Path.{_≡_};
 ghost use mathlib.Core.List.{[], _∷_};
@@ -6,8 +6,10 @@ ghost use Rattle.leaves.specs.Masks.{bitfieldsRows};
 ghost use Rattle.leaves.specs.Refusals.{firstNumber, firstApplying};
 ghost use Rattle.reader.specs.Refusals.{openRows};
 ghost use Rattle.reader.specs.Answers.{sizesFor};
+ghost use Rattle.grids.specs.Scale.{Shaded};
 ghost use Rattle.capi.specs.Interface.{formatAt, defaultSettings, sourceOf, optionsOf, encodedAnswer, boundAnswer, EncodePromise, BoundPromise};
 ghost use Rattle.capi.specs.Reading.{readingAnswer, sizesAnswer, ReadPromise};
+use grids::scale::shade_quotes;
 use leaves::bitfields::BmpBitfields;
 use leaves::bitfields::validate;
 use leaves::encoder::EncodeSource;
@@ -372,4 +374,18 @@ pub extern "C" fn bmp_read_sizes(file: &[u8]) -> BmpReadingSizes
 {
     let answer = read_sizes(file);
     sizes_answer(answer)
+}
+
+// Paints the quotes of two lists into the plane, an index a cell, and answers 0; or changes nothing and answers 15, 22 or
+// 23.
+#[no_mangle]
+pub extern "C" fn bmp_shade_quotes(
+    edges: &[f64],
+    lows: &[f64],
+    highs: &[f64],
+    plane: &mut [u8],
+) -> u32
+    ensures { λ r. ⌜ Shaded (now (edges .entry)) (now (lows .entry)) (now (highs .entry)) (now (plane .entry)) (now (plane .exit)) r ⌝ }
+{
+    shade_quotes(edges, lows, highs, plane)
 }
