@@ -78,8 +78,8 @@ fn shade(price: f64, ends: &[f64; 16], blocks: &[f64; 256]) -> usize
     let mut whole = 0;
     let mut i = 0;
     while i < 16 {
-        let edge = ends[i];
-        if edge <= price {
+        let end = ends[i];
+        if end <= price {
             whole += 1;
         }
         i += 1;
@@ -150,9 +150,9 @@ fn fill(edges: &[f64], lows: &[f64], highs: &[f64], plane: &mut [u8])
     let mut ends = [0.0f64; 16];
     let mut blocks = [0.0f64; 256];
     spread(edges, &mut ends, &mut blocks);
-    let n = lows.len();
+    let count = lows.len();
     let mut k = 0;
-    while k < n {
+    while k < count {
         let quoted = Quote {
             low: lows[k],
             high: highs[k],
@@ -177,8 +177,8 @@ pub fn shade_quotes(edges: &[f64], lows: &[f64], highs: &[f64], plane: &mut [u8]
     }
     let scale = is_scale(edges);
     if scale {
-        let good = are_quotes(lows, highs);
-        if good {
+        let quotes = are_quotes(lows, highs);
+        if quotes {
             fill(edges, lows, highs, plane);
             return 0;
         }

@@ -11,10 +11,10 @@ use Rattle.grids.proofs.scale.fill.Statement.{statement}
 use Rattle.grids.proofs.scale.fill.Tie as tie
 
 abbrev Inv-loop : tie.InvT-loop
-Inv-loop edges lows highs plane₀ ends blocks n k₀ plane k = (k ≤ n) × (length plane ≡ length plane₀) × (put plane k (drop k (indicesOf edges lows highs)) ≡ put plane₀ 0 (indicesOf edges lows highs))
+Inv-loop edges lows highs plane₀ ends blocks count k₀ plane k = (k ≤ count) × (length plane ≡ length plane₀) × (put plane k (drop k (indicesOf edges lows highs)) ≡ put plane₀ 0 (indicesOf edges lows highs))
 
 abbrev μ-loop : tie.MeasureT-loop
-μ-loop edges lows highs plane₀ ends blocks n k₀ plane k = n - k
+μ-loop edges lows highs plane₀ ends blocks count k₀ plane k = count - k
 
 spread-requires : tie.Need-spread-requires Inv-loop μ-loop
 spread-requires c κs = (refl, refl)

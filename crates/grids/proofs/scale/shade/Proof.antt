@@ -22,11 +22,11 @@ abbrev μ-loop2 : tie.MeasureT-loop2
 loop-holds : tie.Need-loop-holds Inv-loop μ-loop Inv-loop2 μ-loop2
 loop-holds c = (omega arith, ends-none (shadeOf (c .args .blocks .now) (c .args .price)))
 
-mul-edge : tie.Need-mul-edge Inv-loop μ-loop Inv-loop2 μ-loop2
-mul-edge c = omega arith
+mul-end : tie.Need-mul-end Inv-loop μ-loop Inv-loop2 μ-loop2
+mul-end c = omega arith
 
-element-copy-out-edge : tie.Need-element-copy-out-edge Inv-loop μ-loop Inv-loop2 μ-loop2
-element-copy-out-edge c = omega arith
+element-copy-out-end : tie.Need-element-copy-out-end Inv-loop μ-loop Inv-loop2 μ-loop2
+element-copy-out-end c = omega arith
 
 add-whole : tie.Need-add-whole Inv-loop μ-loop Inv-loop2 μ-loop2
 add-whole c =
@@ -67,11 +67,11 @@ loop2-holds c =
 add-edge : tie.Need-add-edge Inv-loop μ-loop Inv-loop2 μ-loop2
 add-edge c = omega arith
 
-mul-edge-2 : tie.Need-mul-edge-2 Inv-loop μ-loop Inv-loop2 μ-loop2
-mul-edge-2 c = omega arith
+mul-edge : tie.Need-mul-edge Inv-loop μ-loop Inv-loop2 μ-loop2
+mul-edge c = omega arith
 
-element-copy-out-edge-2 : tie.Need-element-copy-out-edge-2 Inv-loop μ-loop Inv-loop2 μ-loop2
-element-copy-out-edge-2 c = omega arith
+element-copy-out-edge : tie.Need-element-copy-out-edge Inv-loop μ-loop Inv-loop2 μ-loop2
+element-copy-out-edge c = omega arith
 
 add-count : tie.Need-add-count Inv-loop μ-loop Inv-loop2 μ-loop2
 add-count c =
@@ -115,8 +115,8 @@ shade-spec =
     Inv-loop2
     μ-loop2
     loop-holds
-    mul-edge
-    element-copy-out-edge
+    mul-end
+    element-copy-out-end
     add-whole
     add-i
     loop-less
@@ -124,8 +124,8 @@ shade-spec =
     mul-base
     loop2-holds
     add-edge
-    mul-edge-2
-    element-copy-out-edge-2
+    mul-edge
+    element-copy-out-edge
     add-count
     add-k
     loop2-less
