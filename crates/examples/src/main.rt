@@ -1,10 +1,12 @@
 // Runs document 01's examples on the code and prints what comes out: M1 to M8 (row codes), M9 (samples),
 // M10 (row stride), M11 (masks), M12 (a file, with its bound) and the two lines after it; then, for each width of 0 to 32 bits, the sum of all 256 samples fitted
-// to it, a checksum of the codes of all rows of 1 to 7 cells over the indices 0, 1 and 17, and 512 x 512 cells under a limit of 262,144 bytes.
+// to it, a checksum of the codes of all rows of 1 to 7 cells over the indices 0, 1 and 17, 512 x 512 cells under a limit of 262,144 bytes, and 4,000 quotes painted by
+// 254 edges.
 ghost use mathlib.Core.Path.{_≡_};
 ghost use Prim.Native.Nat.{_<_, _≤_};
 ghost use lib.ListN.{length};
 ghost use Rattle.leaves.specs.Widening.{Widens};
+use grids::scale::shade_quotes;
 use leaves::bitfields::quantise;
 use leaves::bitfields::validate;
 use leaves::encoder::EncodeSource;
@@ -269,6 +271,70 @@ fn panel() {
     limited(plane, true, out);
 }
 
+// Prices from the first on, a step apart.
+fn prices(list: &mut [f64], first: f64, step: f64)
+    ensures { λ _. ⌜ length (now (list .exit)) ≡ length (now (list .entry)) ⌝ }
+{
+    let mut price = first;
+    let mut i = 0;
+    while i < list.len() {
+        list[i] = price;
+        price = price + step;
+        i += 1;
+    }
+}
+
+// How many cells are hatched.
+fn hatched(plane: &[u8]) -> u64 {
+    let mut count = 0u64;
+    let mut i = 0;
+    while i < plane.len() {
+        if plane[i] == 255 {
+            count += 1;
+        }
+        i += 1;
+    }
+    count
+}
+
+// Paints quotes and prints the number, how many cells are hatched, and the checksum.
+fn painted(edges: &[f64], lows: &[f64], highs: &[f64], plane: &mut [u8]) {
+    number(shade_quotes(edges, lows, highs, plane) as u64);
+    number(hatched(plane));
+    number(hashed(0, plane, plane.len()));
+}
+
+// A plane of one byte more than there are lows.
+fn all_painted(edges: &[f64], lows: &[f64], highs: &[f64]) {
+    let mut cells = [9u8; 4001];
+    let plane: &mut [u8] = &mut cells;
+    painted(edges, lows, highs, plane);
+}
+
+// The quotes; then lows for highs, no edges, and highs that end too early.
+fn calls(edges: &[f64], lows: &[f64], highs: &[f64])
+    requires { ⌜ length (now highs) ≡ 4000 ⌝ }
+{
+    all_painted(edges, lows, highs);
+    all_painted(edges, highs, lows);
+    all_painted(&edges[0..0], lows, highs);
+    all_painted(edges, lows, &highs[0..3999]);
+}
+
+// Edges an eighth apart, and 4,000 quotes from below the first to above the last.
+fn quotes() {
+    let mut scale = [0.0f64; 254];
+    let mut bids = [0.0f64; 4000];
+    let mut offers = [0.0f64; 4000];
+    let edges: &mut [f64] = &mut scale;
+    let lows: &mut [f64] = &mut bids;
+    let highs: &mut [f64] = &mut offers;
+    prices(edges, 0.0 - 16.0, 0.125);
+    prices(lows, 0.0 - 20.0, 0.01);
+    prices(highs, 0.0 - 19.97, 0.01);
+    calls(edges, lows, highs);
+}
+
 fn row_examples() {
     io::write_all(STDOUT_FILENO, b"M1");
     codes(&[5u8], false);
@@ -312,5 +378,7 @@ fn main() {
     all_rows(true);
     io::write_all(STDOUT_FILENO, b"\npanel");
     panel();
+    io::write_all(STDOUT_FILENO, b"\nquotes");
+    quotes();
     io::write_all(STDOUT_FILENO, b"\n");
 }
