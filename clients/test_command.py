@@ -338,12 +338,14 @@ class Words(Case):
                 os.remove(self.path("out.bmp"))
 
     def test_the_causes_are_the_headers(self):
-        """Some refusals need planes of gigabytes; their texts are held to the header in the command's definition."""
+        """Some refusals need planes of gigabytes; their texts are held to the header in the command's definition. It lends
+        no list, so that its 15 speaks of the file alone, and knows no quotes."""
         with open(os.path.join(HERE, "../crates/command/specs/Runs.antt"), encoding="utf-8") as file:
             listed = re.search(r"^causes =\n(.*?)\[\]\)", file.read(), re.MULTILINE | re.DOTALL).group(1)
         causes = dict(enumerate(re.findall(r'"(.*)"', listed)))
-        self.assertEqual({number: causes[number] for number in range(1, 22)}, {number: REFUSALS[number] for number in range(1, 22)})
-        self.assertEqual(sorted(REFUSALS), list(range(22)) + [255])
+        shared = [number for number in range(1, 22) if number != 15]
+        self.assertEqual({number: causes[number] for number in shared}, {number: REFUSALS[number] for number in shared})
+        self.assertEqual(sorted(REFUSALS), list(range(24)) + [255])
 
     def test_a_shell_sees_a_refusal(self):
         for words, status, printed in (("", 1, b""), ("--palette palette", 0, b"yes\n"), ("--palette none", 2, b"")):

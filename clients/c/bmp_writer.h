@@ -1,10 +1,11 @@
-/* A BMP writer whose every byte is proved, and a reader of its files. Link with libcapi.a (rt staticlib capi), or with
- * libbmp_writer.so (clients/build.sh, which also writes a file for pkg-config). The header is for C99 and C++98 and
- * later.
+/* A BMP writer whose every byte is proved, a reader of its files, and a painter of grids of prices. Link with libcapi.a
+ * (rt staticlib capi), or with libbmp_writer.so (clients/build.sh, which also writes a file for pkg-config). The header
+ * is for C99 and C++98 and later.
  *
  * The calls work in memory that the caller lends and never allocate. Every pointer goes with its length in bytes, but
- * `cells` with its count of numbers; NULL with length 0 is allowed. `out` overlaps no input, and `head`, `table` and
- * `cells` overlap neither the file nor each other. A bool is 0 or 1. */
+ * `cells` and the lists of doubles with their count of numbers; NULL with length 0 is allowed. `out`, and `plane` where
+ * it is filled, overlap no input; `head`, `table` and `cells` overlap neither the file nor each other. A bool is 0
+ * or 1. */
 #ifndef BMP_WRITER_H
 #define BMP_WRITER_H
 
@@ -68,7 +69,8 @@ enum bmp_refusal {
     BMP_STRIDE_TOO_SHORT = 13,   /* stride below width x bytes of a pixel */
     BMP_FILE_TOO_LARGE = 14,     /* no RLE planned, and the file is over the limit */
     BMP_BUFFER_TOO_SHORT = 15,   /* writing: offset past the end, or fewer than bound bytes after it; reading: a
-                                  * lent buffer is shorter than what goes there */
+                                  * lent buffer is shorter than what goes there; quotes: highs or plane shorter than
+                                  * the lows */
     BMP_STREAM_OVER_BUDGET = 16, /* writing: RLE planned, plain file over the limit, stream not under budget */
     BMP_NEVER_WRITTEN = 17,      /* reading: mark, header size, width, height, depth, compression, colour count or
                                   * masks that are never written */
@@ -76,6 +78,8 @@ enum bmp_refusal {
     BMP_STREAM_FAULT = 19,       /* reading: a step over a row's end, a row ended early, a delta code, missing cells */
     BMP_LIMIT_TOO_LARGE = 20,    /* the limit is over 4,294,967,295 */
     BMP_NEGATIVE_RESOLUTION = 21, /* a resolution is negative */
+    BMP_NOT_A_SCALE = 22,        /* quotes: no edge or over 254, an edge not a number, or edges not strictly rising */
+    BMP_NOT_A_QUOTE = 23,        /* quotes: a low or high not a number, or a low above its high */
     BMP_UNKNOWN_FORMAT = 255     /* `format` is none of those listed; this interface's own number */
 };
 
@@ -266,6 +270,17 @@ bmp_reading bmp_read(const uint8_t *file, size_t file_len, uint8_t *head, size_t
 /* How much `bmp_read` fills from the same file. A refusal is 17 or 18; the stream is not looked at. */
 bmp_reading_sizes bmp_read_sizes(const uint8_t *file, size_t file_len);
 
+/* The index of a cell whose ends have different shades. */
+#define BMP_HATCH 255
+
+/* Paints a plane of BMP_PAL8 from prices, an index a cell, for a writing call. A price's shade is the count of edges at
+ * or below it. Cell k has the ends lows[k] and highs[k]: it gets their shade if both have the same, else BMP_HATCH. -0
+ * and 0 are one price; the infinities are prices, also as edges. Answers 0, or the first that applies of 15, 22 and 23,
+ * in this order, and then no byte has changed. Bytes of the plane past the count of lows never change, and highs past
+ * it are not looked at. */
+uint32_t bmp_shade_quotes(const double *edges, size_t edges_len, const double *lows, size_t lows_len,
+                          const double *highs, size_t highs_len, uint8_t *plane, size_t plane_len);
+
 /* 0, or 6 to 10. */
 uint32_t bmp_check_masks(uint16_t bpp, uint32_t red, uint32_t green, uint32_t blue, uint32_t alpha);
 
@@ -287,13 +302,15 @@ static inline const char *bmp_refusal_text(uint32_t number) {
     case BMP_PLANE_TOO_SHORT: return "the plane is shorter than stride times height";
     case BMP_STRIDE_TOO_SHORT: return "the stride is below width times the bytes of a pixel";
     case BMP_FILE_TOO_LARGE: return "the file would have more bytes than the limit";
-    case BMP_BUFFER_TOO_SHORT: return "the buffer is shorter than the file's bound";
+    case BMP_BUFFER_TOO_SHORT: return "a lent buffer or list is too short";
     case BMP_STREAM_OVER_BUDGET: return "neither the stream nor the plain file is within the limit";
     case BMP_NEVER_WRITTEN: return "the head is one that the writer never writes";
     case BMP_OUTSIDE_FILE: return "a byte of header, masks, table, rows or profile lies outside the file";
     case BMP_STREAM_FAULT: return "the stream steps over a row's end, ends too early or uses a delta code";
     case BMP_LIMIT_TOO_LARGE: return "the limit is over 4294967295";
     case BMP_NEGATIVE_RESOLUTION: return "a resolution is negative";
+    case BMP_NOT_A_SCALE: return "the edges are not 1 to 254 numbers, each above the one before";
+    case BMP_NOT_A_QUOTE: return "a cell's low or high is not a number, or the low is above the high";
     case BMP_UNKNOWN_FORMAT: return "the format's number is none of those listed";
     default: return "unknown refusal number";
     }

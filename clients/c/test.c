@@ -1,8 +1,10 @@
 /* Tests of the C interface: run by clients/test.sh. M12's file, which mask is which, the texts, the uses of the
- * defaults, files read back, and the settings of a screen. The header's layout is checked by compiling it. */
+ * defaults, files read back, the settings of a screen, and grids painted from prices. The header's layout is checked by
+ * compiling it. */
 #include "bmp_writer.h"
 #undef NDEBUG /* the assertions are the test */
 #include <assert.h>
+#include <math.h>
 #include <string.h>
 
 static const uint8_t m12[62] = {
@@ -47,14 +49,14 @@ static void masks(void) {
 static void texts(void) {
     const char *unknown = "unknown refusal number";
     for (uint32_t number = 0; number < 300; number++) {
-        bool listed = number <= 21 || number == 255;
+        bool listed = number <= 23 || number == 255;
         assert((strcmp(bmp_refusal_text(number), unknown) != 0) == listed);
         for (uint32_t other = 0; other < number && listed; other++)
             assert(strcmp(bmp_refusal_text(number), bmp_refusal_text(other)) != 0);
     }
     assert(strcmp(bmp_refusal_text(UINT32_MAX), unknown) == 0);
     assert(strcmp(bmp_refusal_text(BMP_OK), "not refused") == 0);
-    assert(strcmp(bmp_refusal_text(BMP_BUFFER_TOO_SHORT), "the buffer is shorter than the file's bound") == 0);
+    assert(strcmp(bmp_refusal_text(BMP_BUFFER_TOO_SHORT), "a lent buffer or list is too short") == 0);
     assert(strcmp(bmp_refusal_text(BMP_LIMIT_TOO_LARGE), "the limit is over 4294967295") == 0);
     assert(strcmp(bmp_refusal_text(BMP_NEGATIVE_RESOLUTION), "a resolution is negative") == 0);
     assert(strcmp(bmp_refusal_text(BMP_UNKNOWN_FORMAT), "the format's number is none of those listed") == 0);
@@ -372,6 +374,121 @@ static void resolutions(void) {
     assert(memcmp(out, with_defaults, sizeof out) == 0);
 }
 
+/* Prices of the tests: the least above 0, and the greatest that is not infinite. */
+#define LEAST 4.9406564584124654e-324
+#define GREATEST 1.7976931348623157e308
+#define COUNT(list) (sizeof(list) / sizeof *(list))
+
+/* A plane between two bytes that are not lent. */
+static uint8_t painted[1 + 300 + 1];
+
+/* The call. No byte but those of the cells has changed, and with a number not those either. */
+static uint32_t shaded(const double *edges, size_t edges_len, const double *lows, size_t lows_len, const double *highs,
+                       size_t highs_len, size_t plane_len) {
+    memset(painted, 0xAA, sizeof painted);
+    uint32_t number =
+        bmp_shade_quotes(edges, edges_len, lows, lows_len, highs, highs_len, plane_len ? painted + 1 : NULL, plane_len);
+    size_t filled = number == BMP_OK ? lows_len : 0;
+    for (size_t k = 0; k < sizeof painted; k++) assert((1 <= k && k <= filled) || painted[k] == 0xAA);
+    return number;
+}
+
+/* The index of one cell. */
+static uint8_t index_of(const double *edges, size_t edges_len, double low, double high) {
+    assert(shaded(edges, edges_len, &low, 1, &high, 1, 1) == BMP_OK);
+    return painted[1];
+}
+
+/* Shades about every kind of edge, and the hatch wherever the ends have different ones. */
+static void quotes(void) {
+    const double edges[] = { -1, 0, 2.5 };
+    const struct {
+        double low, high;
+        uint8_t index;
+    } cells[] = {
+        { -INFINITY, -INFINITY, 0 }, { -INFINITY, -GREATEST, 0 }, { -1.5, -1.25, 0 },
+        { -1, -1, 1 },               { -1, -LEAST, 1 },           { 0, 0, 2 },
+        { -0.0, -0.0, 2 },           { -0.0, 0.0, 2 },            { 0.0, -0.0, 2 },
+        { LEAST, 2.25, 2 },          { 2.5, 2.5, 3 },             { 2.5, INFINITY, 3 },
+        { GREATEST, INFINITY, 3 },   { INFINITY, INFINITY, 3 },   { -1.5, -1, BMP_HATCH },
+        { -1, 0, BMP_HATCH },        { -LEAST, -0.0, BMP_HATCH }, { 2.25, 2.5, BMP_HATCH },
+        { -1.5, 2.25, BMP_HATCH },   { 0, INFINITY, BMP_HATCH },  { -INFINITY, INFINITY, BMP_HATCH }
+    };
+    double lows[COUNT(cells) + 2], highs[COUNT(cells) + 2];
+    for (size_t k = 0; k < COUNT(cells) + 2; k++) {
+        lows[k] = k < COUNT(cells) ? cells[k].low : NAN;
+        highs[k] = k < COUNT(cells) ? cells[k].high : NAN;
+    }
+    /* Lists and plane as long as the lows, then longer. */
+    for (size_t more = 0; more < 3; more++) {
+        assert(shaded(edges, 3, lows, COUNT(cells), highs, COUNT(cells) + more, COUNT(cells) + more) == BMP_OK);
+        for (size_t k = 0; k < COUNT(cells); k++) assert(painted[1 + k] == cells[k].index);
+    }
+
+    const double least[] = { LEAST }, zero[] = { -0.0 }, infinite[] = { -INFINITY, INFINITY };
+    assert(index_of(least, 1, -0.0, 0) == 0 && index_of(least, 1, LEAST, LEAST) == 1);
+    assert(index_of(zero, 1, 0, 0) == 1 && index_of(zero, 1, -LEAST, -LEAST) == 0);
+    assert(index_of(infinite, 2, -INFINITY, GREATEST) == 1 && index_of(infinite, 2, INFINITY, INFINITY) == 2);
+    assert(index_of(infinite, 2, GREATEST, INFINITY) == BMP_HATCH);
+}
+
+/* The numbers and their order. */
+static void quotes_refused(void) {
+    double edges[255];
+    for (int k = 0; k < 255; k++) edges[k] = k;
+    assert(index_of(edges, 254, 252.5, 252.75) == 253 && index_of(edges, 254, 253, INFINITY) == 254);
+    assert(index_of(edges, 254, 252.5, 253) == BMP_HATCH && index_of(edges, 1, -1, 0) == BMP_HATCH);
+
+    const double scales[][3] = {
+        { NAN, 1, 2 }, { 0, NAN, 2 },  { 0, 1, NAN },  { 0, -NAN, 2 }, { NAN, NAN, NAN }, { 0, 0, 1 },
+        { 0, 1, 1 },   { -0.0, 0, 1 }, { 0, -0.0, 1 }, { 1, 0, 2 },    { 0, 2, 1 },       { 0, INFINITY, INFINITY }
+    };
+    const double lows[] = { 1, 2, 3 }, highs[] = { 1, 2, 3 };
+    for (size_t k = 0; k < COUNT(scales); k++) {
+        assert(shaded(scales[k], 3, lows, 3, highs, 3, 3) == BMP_NOT_A_SCALE);
+        assert(shaded(scales[k], 3, NULL, 0, NULL, 0, 0) == BMP_NOT_A_SCALE);
+    }
+    assert(shaded(NULL, 0, lows, 3, highs, 3, 3) == BMP_NOT_A_SCALE);
+    assert(shaded(NULL, 0, NULL, 0, NULL, 0, 0) == BMP_NOT_A_SCALE);
+    assert(shaded(edges, 255, lows, 3, highs, 3, 3) == BMP_NOT_A_SCALE);
+
+    const double ends[][2] = {
+        { NAN, 1 }, { 1, NAN }, { NAN, NAN }, { -NAN, 1 }, { 1, 0 }, { LEAST, -0.0 }, { INFINITY, GREATEST }
+    };
+    for (size_t k = 0; k < COUNT(ends); k++)
+        for (size_t at = 0; at < 3; at++) {
+            double low[] = { 1, 2, 3 }, high[] = { 1, 2, 3 };
+            low[at] = ends[k][0];
+            high[at] = ends[k][1];
+            assert(shaded(edges, 254, low, 3, high, 3, 3) == BMP_NOT_A_QUOTE);
+            assert(shaded(edges, 255, low, 3, high, 3, 3) == BMP_NOT_A_SCALE);
+            assert(shaded(edges, 255, low, 3, high, 2, 3) == BMP_BUFFER_TOO_SHORT);
+            assert(shaded(edges, 254, low, 3, high, 3, 2) == BMP_BUFFER_TOO_SHORT);
+            /* Not a cell: nothing of it is looked at. */
+            assert(shaded(edges, 254, low, at, high, 3, 3) == BMP_OK);
+        }
+    assert(shaded(edges, 254, lows, 3, highs, 2, 3) == BMP_BUFFER_TOO_SHORT);
+    assert(shaded(edges, 254, lows, 3, highs, 3, 2) == BMP_BUFFER_TOO_SHORT);
+    assert(shaded(edges, 254, lows, 3, NULL, 0, 3) == BMP_BUFFER_TOO_SHORT);
+    assert(shaded(edges, 254, lows, 3, highs, 3, 0) == BMP_BUFFER_TOO_SHORT);
+    assert(shaded(edges, 254, NULL, 0, NULL, 0, 0) == BMP_OK && shaded(edges, 254, NULL, 0, highs, 3, 3) == BMP_OK);
+}
+
+/* A painted plane is written, and its file shows the indices. */
+static void quotes_written(void) {
+    const double edges[] = { 100, 101, 102 };
+    const double lows[] = { 99, 100, 101, 99.5, 102, 102 }, highs[] = { 99.5, 100.5, 101, 100, 102, 250 };
+    const uint32_t indices[] = { 0, 1, 2, BMP_HATCH, 3, 3 };
+    const bmp_source source = { BMP_PAL8, 3, 2, true, false, false, 3 };
+    uint8_t file[2000];
+    assert(shaded(edges, 3, lows, 6, highs, 6, 6) == BMP_OK);
+    bmp_answer answer = bmp_encode_into(source, BMP_OPTIONS_DEFAULT, painted + 1, 6, NULL, 0, NULL, 0, NULL, 0, file,
+                                        sizeof file, 0);
+    assert(answer.refusal == BMP_OK);
+    assert(read_back(file, answer.bytes, 54, 1024, 6).refusal == BMP_OK);
+    assert(memcmp(now.cells + 1, indices, sizeof indices) == 0);
+}
+
 int main(void) {
     file();
     masks();
@@ -384,5 +501,8 @@ int main(void) {
     limits();
     settings_refused();
     resolutions();
+    quotes();
+    quotes_refused();
+    quotes_written();
     return 0;
 }

@@ -3,6 +3,7 @@
 #undef NDEBUG // the assertions are the test
 #include <cassert>
 #include <cstring>
+#include <limits>
 
 static const bmp_options at_start = BMP_OPTIONS_STATIC;
 static const bmp_options several[2] = { BMP_OPTIONS_DEFAULT, BMP_OPTIONS_DEFAULT };
@@ -83,6 +84,28 @@ static void settings() {
     assert(answer.refusal == BMP_LIMIT_TOO_LARGE);
 }
 
+// A grid painted from prices; every number, and what a refusal and the bytes past the cells leave.
+static void quotes() {
+    const double infinity = std::numeric_limits<double>::infinity(), nan = std::numeric_limits<double>::quiet_NaN();
+    const double edges[3] = { 0, 1, infinity }, falling[3] = { 0, 2, 1 }, broken[3] = { 0, nan, 2 };
+    const double lows[5] = { -infinity, -0.0, 0.5, 0.5, infinity }, highs[6] = { -1, 0.5, 0.75, 1, infinity, nan };
+    uint8_t plane[7], was[7];
+    std::memset(plane, 0xAA, sizeof plane);
+    std::memset(was, 0xAA, sizeof was);
+    assert(bmp_shade_quotes(falling, 3, lows, 5, highs, 4, plane, 7) == BMP_BUFFER_TOO_SHORT);
+    assert(bmp_shade_quotes(falling, 3, lows, 5, highs, 6, plane, 4) == BMP_BUFFER_TOO_SHORT);
+    assert(bmp_shade_quotes(falling, 3, highs, 6, highs, 6, plane, 7) == BMP_NOT_A_SCALE);
+    assert(bmp_shade_quotes(broken, 3, lows, 5, highs, 6, plane, 7) == BMP_NOT_A_SCALE);
+    assert(bmp_shade_quotes(NULL, 0, NULL, 0, NULL, 0, NULL, 0) == BMP_NOT_A_SCALE);
+    assert(bmp_shade_quotes(edges, 3, highs, 6, highs, 6, plane, 7) == BMP_NOT_A_QUOTE);
+    assert(bmp_shade_quotes(edges, 3, highs, 5, lows, 5, plane, 7) == BMP_NOT_A_QUOTE);
+    assert(bmp_shade_quotes(edges, 3, NULL, 0, NULL, 0, NULL, 0) == BMP_OK);
+    assert(std::memcmp(plane, was, sizeof plane) == 0);
+    assert(bmp_shade_quotes(edges, 3, lows, 5, highs, 6, plane + 1, 6) == BMP_OK);
+    const uint8_t painted[7] = { 0xAA, 0, 1, 1, BMP_HATCH, 3, 0xAA };
+    assert(std::memcmp(plane, painted, sizeof plane) == 0);
+}
+
 int main() {
     bmp_options options = BMP_OPTIONS_DEFAULT;
     assert(is_default(options) && is_default(several[0]) && is_default(several[1]));
@@ -93,11 +116,12 @@ int main() {
     assert(is_default(options));
 
     assert(std::strcmp(bmp_refusal_text(BMP_ZERO_DIMENSION), "width or height is 0") == 0);
-    assert(std::strcmp(bmp_refusal_text(22), "unknown refusal number") == 0);
+    assert(std::strcmp(bmp_refusal_text(24), "unknown refusal number") == 0);
 
     const bmp_source nothing = { BMP_RGB24, 0, 1, false, false, false, 0 };
     assert(bmp_encoded_size_bound(nothing, BMP_OPTIONS_DEFAULT, NULL, 0, NULL, 0, NULL, 0, NULL, 0).refusal == BMP_ZERO_DIMENSION);
     reading();
     settings();
+    quotes();
     return 0;
 }
