@@ -1,5 +1,5 @@
 //! A BMP writer whose every byte is proved, for Rust, over its C interface: types and names as the original encoder has them.
-//! `read` takes a file apart again.
+//! `read` takes a file apart again, and `shade_quotes` paints a plane from prices.
 //! `build.rs` links `libcapi.a` (`rt staticlib capi`).
 
 /// The layout of the lent plane.
@@ -105,13 +105,15 @@ impl BmpError {
             12 => "the plane is shorter than stride times height",
             13 => "the stride is below width times the bytes of a pixel",
             14 => "the file would have more bytes than the limit",
-            15 => "the buffer is shorter than the file's bound",
+            15 => "a lent buffer or list is too short",
             16 => "neither the stream nor the plain file is within the limit",
             17 => "the head is one that the writer never writes",
             18 => "a byte of header, masks, table, rows or profile lies outside the file",
             19 => "the stream steps over a row's end, ends too early or uses a delta code",
             20 => "the limit is over 4294967295",
             21 => "a resolution is negative",
+            22 => "the edges are not 1 to 254 numbers, each above the one before",
+            23 => "a cell's low or high is not a number, or the low is above the high",
             255 => "the format's number is none of those listed",
             _ => "unknown refusal number",
         }
@@ -394,6 +396,10 @@ unsafe extern "C" {
         cells: *mut u32, cells_len: usize,
     ) -> RawReading;
     fn bmp_read_sizes(file: *const u8, file_len: usize) -> RawReadingSizes;
+    fn bmp_shade_quotes(
+        edges: *const f64, edges_len: usize, lows: *const f64, lows_len: usize, highs: *const f64, highs_len: usize,
+        plane: *mut u8, plane_len: usize,
+    ) -> u32;
 }
 
 fn raw_source(src: &EncodeSource<'_>, options: &EncodeOptions) -> RawSource {
@@ -528,6 +534,32 @@ pub fn read(file: &[u8]) -> Result<Picture<'_>> {
     unsafe { cells.set_len(numbers) };
     let Reading { width, height, depth, profile } = reading;
     Ok(Picture { width, height, depth, head, table, cells, profile })
+}
+
+/// The index of a cell whose ends have different shades.
+pub const HATCH: u8 = 255;
+
+/// Paints a `Pal8` plane from prices, an index a cell. A price's shade is the count of edges at or below it. The ends of cell k
+/// are `lows[k]` and `highs[k]`: it gets their shade if both have the same, else `HATCH`. -0 and 0 are one price; the infinities
+/// are prices, also as edges.
+///
+/// 15 where the highs or the plane are shorter than the lows, 22 where the edges are no scale, 23 where a cell is no quote, in
+/// this order; a refused call changes no byte. Bytes past the count of lows never change, and highs past it are not looked at.
+///
+/// ```
+/// let mut plane = [0; 3];
+/// bmp_writer::shade_quotes(&[100.0, 101.0], &[99.0, 100.5, 100.5], &[99.5, 100.75, 101.0], &mut plane)?;
+/// assert_eq!(plane, [0, 1, bmp_writer::HATCH]);
+/// # Ok::<(), bmp_writer::BmpError>(())
+/// ```
+#[rustfmt::skip]
+pub fn shade_quotes(edges: &[f64], lows: &[f64], highs: &[f64], plane: &mut [u8]) -> Result<()> {
+    // Each pointer goes with the length of its slice, and `plane` is borrowed alone.
+    accepted(unsafe {
+        bmp_shade_quotes(
+            edges.as_ptr(), edges.len(), lows.as_ptr(), lows.len(), highs.as_ptr(), highs.len(), plane.as_mut_ptr(), plane.len(),
+        )
+    })
 }
 
 #[cfg(test)]

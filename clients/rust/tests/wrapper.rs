@@ -61,13 +61,13 @@ fn refusals() {
 #[test]
 fn the_texts_are_the_headers() {
     let there: Vec<&str> = HEADER.split("return \"").skip(1).map(|rest| rest.split('"').next().unwrap()).collect();
-    let here: Vec<&str> = (0..=21).chain([255, 22]).map(|number| BmpError::refused(number).text()).collect();
+    let here: Vec<&str> = (0..=23).chain([255, 24]).map(|number| BmpError::refused(number).text()).collect();
     assert_eq!(here, there);
 }
 
 #[test]
 fn unknown_numbers_print_as_such() {
-    assert_eq!(BmpError::refused(22).to_string(), "22: unknown refusal number");
+    assert_eq!(BmpError::refused(24).to_string(), "24: unknown refusal number");
     assert_eq!(BmpError::refused(u32::MAX).to_string(), "4294967295: unknown refusal number");
     assert_eq!(BmpError::refused(255).to_string(), "255: the format's number is none of those listed");
     assert_eq!(EncodedBmpFormat::try_from(11), Ok(EncodedBmpFormat::AlphaBitfields));
@@ -385,6 +385,101 @@ fn settings_that_are_refused() {
     assert_eq!(answered(&EncodeSource { palette: None, ..src }, &set(0, 0, 0)), Err(3));
     assert_eq!(encode(&src, &bad).unwrap_err().to_string(), "20: the limit is over 4294967295");
     assert_eq!(encode(&src, &set(0, -1, 0)).unwrap_err().to_string(), "21: a resolution is negative");
+}
+
+/// A plane longer than needed, between bytes that are not lent: the number or the indices, and nothing else has changed.
+fn shaded(edges: &[f64], lows: &[f64], highs: &[f64], more: usize) -> std::result::Result<Vec<u8>, u32> {
+    let mut plane = vec![0xAA; lows.len() + more + 2];
+    let answer = shade_quotes(edges, lows, highs, &mut plane[1..=lows.len() + more]);
+    let filled = if answer.is_ok() { lows.len() } else { 0 };
+    assert!(plane[0] == 0xAA && plane[1 + filled..].iter().all(|byte| *byte == 0xAA));
+    answer.map(|()| plane[1..=filled].to_vec()).map_err(|error| error.number)
+}
+
+/// The least price above 0.
+const LEAST: f64 = f64::from_bits(1);
+const INFINITY: f64 = f64::INFINITY;
+
+#[test]
+fn quotes() {
+    let edges = [-1.0, 0.0, 2.5];
+    let cells = [
+        (-INFINITY, -INFINITY, 0),
+        (-1.5, -1.0f64.next_up(), 0),
+        (-1.0, -LEAST, 1),
+        (-0.0, -0.0, 2),
+        (-0.0, 0.0, 2),
+        (0.0, -0.0, 2),
+        (LEAST, 2.5f64.next_down(), 2),
+        (2.5, INFINITY, 3),
+        (f64::MAX, INFINITY, 3),
+        (-1.0f64.next_up(), -1.0, HATCH),
+        (-LEAST, -0.0, HATCH),
+        (2.25, 2.5, HATCH),
+        (-INFINITY, INFINITY, HATCH),
+    ];
+    let lows: Vec<f64> = cells.iter().map(|cell| cell.0).collect();
+    let mut highs: Vec<f64> = cells.iter().map(|cell| cell.1).collect();
+    let indices: Vec<u8> = cells.iter().map(|cell| cell.2).collect();
+    assert_eq!(shaded(&edges, &lows, &highs, 0), Ok(indices.clone()));
+    highs.extend([f64::NAN, -INFINITY]);
+    assert_eq!(shaded(&edges, &lows, &highs, 2), Ok(indices));
+    let ends = [-INFINITY, f64::MAX, INFINITY];
+    assert_eq!(shaded(&[-INFINITY, INFINITY], &ends, &ends, 0), Ok(vec![1, 1, 2]));
+    assert_eq!((shaded(&[LEAST], &[-0.0, LEAST], &[0.0, LEAST], 0), shaded(&[-0.0], &[0.0], &[0.0], 0)), (Ok(vec![0, 1]), Ok(vec![1])));
+    let most: Vec<f64> = (0..254).map(f64::from).collect();
+    let prices: Vec<f64> = (0..255).map(|k| f64::from(k) - 0.5).collect();
+    assert_eq!(shaded(&most, &prices, &prices, 0), Ok((0..=254).collect()));
+}
+
+/// 15 before 22 before 23, and no byte changes.
+#[test]
+fn quotes_that_are_refused() {
+    let rising: Vec<f64> = (0..255).map(f64::from).collect();
+    let (nan, good) = (f64::NAN, [1.0, 2.0, 3.0]);
+    let scales: [&[f64]; 11] = [
+        &[],
+        &rising,
+        &[nan],
+        &[nan, 1.0],
+        &[0.0, -nan, 2.0],
+        &[0.0, nan],
+        &[0.0, 0.0],
+        &[-0.0, 0.0],
+        &[0.0, -0.0],
+        &[2.0, 1.0],
+        &[INFINITY, INFINITY],
+    ];
+    for scale in scales {
+        assert_eq!((shaded(scale, &good, &good, 0), shaded(scale, &[], &[], 1)), (Err(22), Err(22)));
+    }
+    let most = &rising[..254];
+    for (low, high) in [(nan, 1.0), (1.0, nan), (-nan, nan), (1.0, 0.0), (LEAST, -0.0), (INFINITY, f64::MAX)] {
+        for at in 0..3 {
+            let (mut lows, mut highs) = (good, good);
+            (lows[at], highs[at]) = (low, high);
+            assert_eq!((shaded(most, &lows, &highs, 1), shaded(&rising, &lows, &highs, 0)), (Err(23), Err(22)));
+            assert_eq!((shaded(&rising, &lows, &highs[1..], 0), shaded(most, &lows[..at], &highs, 1).is_ok()), (Err(15), true));
+        }
+    }
+    let mut plane = [0xAA; 3];
+    assert_eq!(shade_quotes(&rising, &good, &good, &mut plane[1..]).unwrap_err().number, 15);
+    assert_eq!(shade_quotes(most, &good, &good, &mut []).unwrap_err().to_string(), "15: a lent buffer or list is too short");
+    assert_eq!((shade_quotes(most, &[], &good, &mut plane), shade_quotes(most, &[], &[], &mut []), plane), (Ok(()), Ok(()), [0xAA; 3]));
+}
+
+/// From quotes to a file, which shows the indices.
+#[test]
+fn quotes_read_back() {
+    let edges: Vec<f64> = (1..=20).map(|k| f64::from(k) * 0.5).collect();
+    let lows: Vec<f64> = (0..200).map(|k| f64::from(k / 20) + f64::from(k % 20) / 16.0).collect();
+    let highs: Vec<f64> = lows.iter().map(|low| low + 0.125).collect();
+    let plane = shaded(&edges, &lows, &highs, 0).unwrap();
+    let src = EncodeSource { height: 10, palette: Some(&[]), ..picture(BmpPixelFormat::Pal8, 20, 20, &plane) };
+    let (file, _) = encode(&src, &EncodeOptions::new()).unwrap();
+    let cells: Vec<u32> = plane.iter().map(|index| u32::from(*index)).collect();
+    assert_eq!(read(&file).unwrap().cells, cells);
+    assert!(plane.contains(&HATCH) && plane.contains(&0) && plane.contains(&20));
 }
 
 /// VERSION, the header and Cargo.toml say the same.
