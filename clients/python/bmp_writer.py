@@ -6,12 +6,14 @@ A notebook needs three lines; `grid` is a uint8 array of (height, width) whose c
     file, written = bmp_writer.encode(grid, palette=[(shade, shade, shade) for shade in range(256)])
     open("grid.bmp", "wb").write(file)
 
-and `bmp_writer.read(file)` gives the cells back.
+and `bmp_writer.read(file)` gives the cells back. A grid of prices, `lows` and `highs`, is painted first:
 
-Any buffer of one-byte items may be lent: bytes, bytearray, memoryview, an array of uint8. A buffer of one dimension says
-nothing of its shape and needs the width and the height. What could be read in two ways is refused: an argument of the wrong
-type raises TypeError and one that does not fit ValueError, both with the argument's name, and what the library refuses raises
-BmpError with the number and the text of its table.
+    plane = bmp_writer.shade_quotes(edges, lows, highs)
+
+Any buffer of one-byte items may be lent: bytes, bytearray, memoryview, an array of uint8; and for prices any buffer of doubles.
+A buffer of one dimension says nothing of its shape and needs the width and the height. What could be read in two ways is
+refused: an argument of the wrong type raises TypeError and one that does not fit ValueError, both with the argument's name, and
+what the library refuses raises BmpError with the number and the text of its table.
 
 The library is looked for in the variable BMP_WRITER_LIBRARY; if that is not set, beside this file, where an installed package
 has it, and then where `bash clients/build.sh` writes it in a checkout.
@@ -24,6 +26,7 @@ import mmap
 import operator
 import os
 import reprlib
+import sys
 from collections.abc import Mapping
 from dataclasses import dataclass
 from typing import TYPE_CHECKING, Any, List, NamedTuple, Optional, Sequence, Tuple, Union
@@ -33,14 +36,15 @@ if TYPE_CHECKING:
 else:
     Buffer = Any
 
-__all__ = ["BYTES_PER_PIXEL", "Bitfields", "BmpError", "CalibratedRgb", "EncodeOptions", "FORMATS", "Picture", "REFUSALS",
-           "WRITTEN", "check_masks", "encode", "read", "size_bound"]
+__all__ = ["BYTES_PER_PIXEL", "Bitfields", "BmpError", "CalibratedRgb", "EncodeOptions", "FORMATS", "HATCH", "Picture",
+           "REFUSALS", "WRITTEN", "check_masks", "encode", "read", "shade_quotes", "size_bound"]
 __version__ = "1.0.0"
 
 FORMATS = ("Rgba", "Rgb24", "Bgra", "Bgr24", "Rgb555", "Rgb565", "Pal8", "Indexed4", "Indexed2", "Indexed1")
 BYTES_PER_PIXEL = (4, 3, 4, 3, 2, 2, 1, 1, 1, 1)
 WRITTEN = ("Rgb32", "Rgb24", "Rgb16Rgb", "Rgb16Bitfields", "Indexed8", "Indexed4", "Indexed2", "Rle8", "Rle4", "Indexed1",
            "Bitfields", "AlphaBitfields")
+HATCH = 255  # The index of a cell whose ends have different shades.
 
 REFUSALS = {
     1: "width or height is 0",
@@ -57,13 +61,15 @@ REFUSALS = {
     12: "the plane is shorter than stride times height",
     13: "the stride is below width times the bytes of a pixel",
     14: "the file would have more bytes than the limit",
-    15: "the buffer is shorter than the file's bound",
+    15: "a lent buffer or list is too short",
     16: "neither the stream nor the plain file is within the limit",
     17: "the head is one that the writer never writes",
     18: "a byte of header, masks, table, rows or profile lies outside the file",
     19: "the stream steps over a row's end, ends too early or uses a delta code",
     20: "the limit is over 4294967295",
     21: "a resolution is negative",
+    22: "the edges are not 1 to 254 numbers, each above the one before",
+    23: "a cell's low or high is not a number, or the low is above the high",
     255: "the format's number is none of those listed",
 }
 
@@ -170,6 +176,7 @@ _MIN_I32, _MAX_I32 = -2 ** 31, 2 ** 31 - 1
 _BUILD = "run `rt staticlib capi && bash clients/build.sh` in the checkout, or set BMP_WRITER_LIBRARY to libbmp_writer.so"
 _ENTRY = "(red, green, blue) or (red, green, blue, alpha)"
 _ENTRIES = f"a sequence of {_ENTRY}"
+_DOUBLES = ("d", "@d", "=d", "<d" if sys.byteorder == "little" else ">d")
 _library: Optional[ctypes.CDLL] = None
 
 
@@ -205,6 +212,8 @@ def _lib() -> ctypes.CDLL:
             library.bmp_read.restype = _Reading
             library.bmp_read_sizes.argtypes = [ctypes.c_char_p, ctypes.c_size_t]
             library.bmp_read_sizes.restype = _ReadingSizes
+            library.bmp_shade_quotes.argtypes = [ctypes.c_void_p, ctypes.c_size_t] * 4
+            library.bmp_shade_quotes.restype = ctypes.c_uint32
         except (OSError, AttributeError) as error:
             raise ImportError(f"the library {path} cannot be used ({error}): {_BUILD}") from error
         _library = library
@@ -253,14 +262,18 @@ def _wholes(name: str, values: Any, count: int, low: int, high: int) -> List[int
     return [_whole(f"{name}[{k}]", item, low, high) for k, item in enumerate(items)]
 
 
-def _view(name: str, value: Any) -> memoryview:
-    """A view of one-byte items. Wider ones would be read as several cells, and a negative one as another shade."""
+def _lent(name: str, value: Any, needed: str) -> memoryview:
     try:
-        view = memoryview(value)
+        return memoryview(value)
     except TypeError:
-        raise TypeError(f"{name}: {_type(value)} given; bytes, bytearray, memoryview or an array of uint8 is needed") from None
+        raise TypeError(f"{name}: {_type(value)} given; {needed} is needed") from None
     except (BufferError, ValueError) as error:
         raise TypeError(f"{name}: {_type(value)} lends no buffer ({error})") from error
+
+
+def _view(name: str, value: Any) -> memoryview:
+    """A view of one-byte items. Wider ones would be read as several cells, and a negative one as another shade."""
+    view = _lent(name, value, "bytes, bytearray, memoryview or an array of uint8")
     item = view.format.lstrip("@=<>!")  # A byte has no order.
     if view.itemsize == 1 and item in ("B", "c", "?"):
         return view
@@ -316,6 +329,17 @@ def _entries(palette: Any) -> bytes:
         if len(entry) == 3:
             out.append(255)
     return bytes(out)
+
+
+def _doubles(name: str, value: Any, most: int) -> memoryview:
+    """A view of doubles as this machine has them, in one dimension or up to `most`."""
+    view = _lent(name, value, "an array of the type code 'd' or another buffer of doubles")
+    if view.format not in _DOUBLES:
+        raise TypeError(f"{name}: {_type(value)} with items '{view.format}'; doubles ('d') are needed (numpy: "
+                        f"{name}.astype('float64'))")
+    if not 1 <= view.ndim <= most:
+        raise ValueError(f"{name}: shape {view.shape}; {'one dimension' if most == 1 else 'one dimension or two'} is needed")
+    return view
 
 
 def _kind(format: Any) -> int:
@@ -380,9 +404,13 @@ def _raw_options(options: Any) -> _Options:
 
 # ---- The calls
 
+def _allowed(number: int) -> None:
+    if number != 0:
+        raise BmpError(number)
+
+
 def _accepted(answer: Any) -> Any:
-    if answer.refusal != 0:
-        raise BmpError(answer.refusal)
+    _allowed(answer.refusal)
     return answer
 
 
@@ -478,9 +506,30 @@ def read(data: Buffer) -> Picture:
     return Picture(answer.width, answer.height, answer.depth, head.raw, table.raw, cells, profile)
 
 
+def shade_quotes(edges: Buffer, lows: Buffer, highs: Buffer) -> bytearray:
+    """A plane for `encode`, painted from prices: an index a cell, row by row.
+
+    edges  The scale: 1 to 254 prices, each above the one before. A price's shade is the count of edges at or below it.
+    lows   The lowest price of each cell, in one dimension or as rows; highs the highest. A cell gets the shade of both, or HATCH
+           where they have different ones. Highs past the lows are not looked at.
+
+    All three are buffers of doubles: an array of the type code 'd', an array of float64. -0 and 0 are one price; the infinities
+    are prices, also as edges. The library paints with the interpreter's lock released.
+
+    Raises BmpError with 15 where the highs are fewer than the lows, 22 where the edges are no scale, or 23 where a price is not a
+    number or a low is above its high. (numpy: numpy.frombuffer(plane, 'uint8').reshape(lows.shape).)
+    """
+    views = [_doubles("edges", edges, 1), _doubles("lows", lows, 2), _doubles("highs", highs, 2)]
+    if views[1].shape[1:] != views[2].shape[1:]:
+        raise ValueError(f"highs: shape {views[2].shape}, and that of lows is {views[1].shape}; rows of one length are needed")
+    # Copies, since other threads may run.
+    lists = [array.array("d", view.tobytes()) for view in views]
+    plane = ctypes.create_string_buffer(len(lists[1]))
+    _allowed(_lib().bmp_shade_quotes(*(part for prices in lists for part in prices.buffer_info()), plane, len(plane)))
+    return bytearray(plane)
+
+
 def check_masks(bpp: int, red: int, green: int, blue: int, alpha: int = 0) -> None:
     """Raises BmpError with 6 to 10 where the masks are refused."""
     named = (("red", red), ("green", green), ("blue", blue), ("alpha", alpha))
-    number = _lib().bmp_check_masks(_whole("bpp", bpp, 0, _MAX_U16), *(_whole(name, mask, 0, _MAX_U32) for name, mask in named))
-    if number != 0:
-        raise BmpError(number)
+    _allowed(_lib().bmp_check_masks(_whole("bpp", bpp, 0, _MAX_U16), *(_whole(name, mask, 0, _MAX_U32) for name, mask in named)))

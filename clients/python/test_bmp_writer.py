@@ -15,8 +15,8 @@ import unittest
 from concurrent.futures import ThreadPoolExecutor
 
 import bmp_writer
-from bmp_writer import (BYTES_PER_PIXEL, FORMATS, BmpError, Bitfields, CalibratedRgb, EncodeOptions, Picture, encode,
-                        size_bound)
+from bmp_writer import (BYTES_PER_PIXEL, FORMATS, HATCH, BmpError, Bitfields, CalibratedRgb, EncodeOptions, Picture, encode,
+                        shade_quotes, size_bound)
 
 try:
     import numpy
@@ -65,16 +65,18 @@ def shown(file, width, height):
 
 
 class Case(unittest.TestCase):
+    calls = encode, size_bound
+
     def refused(self, number, *arguments, **named):
-        for call in (encode, size_bound):
+        for call in self.calls:
             with self.assertRaises(BmpError) as caught:
                 call(*arguments, **named)
             self.assertEqual(caught.exception.number, number)
             self.assertEqual(str(caught.exception), f"{number}: {bmp_writer.REFUSALS[number]}")
 
     def wrong(self, kind, pieces, *arguments, **named):
-        """Both calls raise exactly this kind, and the text starts with the first piece and has the others."""
-        for call in (encode, size_bound):
+        """The calls raise exactly this kind, and the text starts with the first piece and has the others."""
+        for call in self.calls:
             with self.assertRaises(kind) as caught:
                 call(*arguments, **named)
             text = str(caught.exception)
@@ -722,6 +724,114 @@ class Reading(Case):
             file, written = encode(plane, 1000, 1000, palette=GREYS, options=EncodeOptions(rle=rle))
             picture = bmp_writer.read(file)
             self.assertEqual((written, bytes(picture.cells.tolist())), ("Rle8" if rle else "Indexed8", plane))
+
+
+def doubles(*prices):
+    return array.array("d", prices)
+
+
+class Quotes(Case):
+    calls = shade_quotes,
+    inf, nan, least = float("inf"), float("nan"), 5e-324
+    edges = doubles(-1, 0, 2.5)
+    most = doubles(*range(254))
+    # Low, high and index.
+    cells = ((-inf, -inf, 0), (-1.5, -1.25, 0), (-1, -least, 1), (-0.0, -0.0, 2), (-0.0, 0.0, 2), (0.0, -0.0, 2),
+             (least, 2.25, 2), (2.5, inf, 3), (inf, inf, 3), (-1.5, -1, HATCH), (-least, -0.0, HATCH), (2.25, 2.5, HATCH),
+             (-inf, inf, HATCH))
+    lows, highs = doubles(*(cell[0] for cell in cells)), doubles(*(cell[1] for cell in cells))
+    plane = bytearray(cell[2] for cell in cells)
+
+    def test_shades(self):
+        plane = shade_quotes(self.edges, self.lows, self.highs)
+        self.assertEqual((type(plane), plane), (bytearray, self.plane))
+        plane.append(0)
+        self.assertEqual(shade_quotes(self.edges, self.lows, self.highs + doubles(self.nan, -self.inf)), self.plane)
+        ends = doubles(-self.inf, 1e308, self.inf)
+        self.assertEqual(shade_quotes(doubles(-self.inf, self.inf), ends, ends), b"\1\1\2")
+        self.assertEqual(shade_quotes(doubles(-0.0), doubles(0, -self.least), doubles(0, -self.least)), b"\1\0")
+        prices = doubles(*(k - 0.5 for k in range(255)))
+        self.assertEqual(shade_quotes(self.most, prices, prices), bytes(range(255)))
+        self.assertEqual(shade_quotes(self.most, doubles(), doubles()), b"")
+
+    def test_refusals(self):
+        """15 before 22 before 23."""
+        good, full = doubles(1, 2, 3), self.most + doubles(254)
+        for scale in ((), full, (self.nan,), (self.nan, 1), (0, -self.nan, 2), (0, self.nan), (0, 0), (-0.0, 0.0), (0.0, -0.0),
+                      (2, 1), (self.inf, self.inf)):
+            self.refused(22, doubles(*scale), good, good)
+            self.refused(22, doubles(*scale), doubles(), doubles())
+        for low, high in ((self.nan, 1), (1, self.nan), (-self.nan, self.nan), (1, 0), (self.least, -0.0), (self.inf, 1e308)):
+            for at in range(3):
+                lows, highs = good[:], good[:]
+                lows[at], highs[at] = low, high
+                self.refused(23, self.most, lows, highs)
+                self.refused(22, full, lows, highs)
+                self.refused(15, full, lows, highs[:2])
+                self.assertEqual(shade_quotes(self.most, lows[:at], highs), bytes((2, 3, 4)[:at]))
+        self.refused(15, self.most, good, doubles())
+
+    def test_kinds_of_buffers(self):
+        size = len(self.lows)
+
+        def spaced(prices):
+            return memoryview(doubles(*(price for price in prices for _ in "ab")))[::2]
+
+        for kind in (memoryview, lambda a: memoryview(a).toreadonly(), lambda a: memoryview(bytes(a)).cast("d"),
+                     lambda a: (ctypes.c_double * len(a))(*a), spaced):
+            self.assertEqual(shade_quotes(kind(self.edges), kind(self.lows), kind(self.highs)), self.plane)
+        rows = [memoryview(bytes(prices[:12])).cast("d", (3, 4)) for prices in (self.lows, self.highs)]
+        self.assertEqual(shade_quotes(self.edges, *rows), self.plane[:12])
+        for value, kind in ((None, "NoneType"), (4.0, "float"), ("abc", "str"), ([1.0], "list")):
+            for name in ("edges", "lows", "highs"):
+                given = {"edges": self.edges, "lows": self.lows, "highs": self.highs, name: value}
+                self.wrong(TypeError, [f"{name}: {kind} given; an array of the type code 'd'"], **given)
+        for code in "fqbB":
+            self.wrong(TypeError, [f"lows: array.array with items '{code}'; doubles ('d') are needed"], self.edges,
+                       array.array(code, [1] * size), self.highs)
+        self.wrong(TypeError, ["edges: bytes with items 'B'; doubles"], bytes(24), self.lows, self.highs)
+        swapped = ctypes.c_double.__ctype_be__ if sys.byteorder == "little" else ctypes.c_double.__ctype_le__
+        self.wrong(TypeError, ["highs: ", "'; doubles ('d') are needed"], self.edges, self.lows, (swapped * size)())
+
+    def test_shapes_that_do_not_fit(self):
+        twelve = bytes(8 * 12)
+        flat, rows, columns = (memoryview(twelve).cast("d", shape) for shape in ((12,), (3, 4), (4, 3)))
+        self.wrong(ValueError, ["edges: shape (3, 4); one dimension is needed"], rows, flat, flat)
+        self.wrong(ValueError, ["lows: shape (2, 2, 3); one dimension or two is needed"], self.edges,
+                   memoryview(twelve).cast("d", (2, 2, 3)), flat)
+        self.wrong(ValueError, ["highs: shape (); one dimension or two is needed"], self.edges, flat, ctypes.c_double(1))
+        for lows, highs in ((rows, columns), (rows, flat), (flat, rows)):
+            self.wrong(ValueError, [f"highs: shape {highs.shape}, and that of lows is {lows.shape}"], self.edges, lows, highs)
+        self.refused(15, self.edges, rows, memoryview(twelve[:64]).cast("d", (2, 4)))
+        self.assertEqual(shade_quotes(self.edges, memoryview(twelve[:64]).cast("d", (2, 4)), rows), b"\2" * 8)
+
+    def test_a_file_shows_the_indices(self):
+        lows = doubles(*(y + x / 16 for y in range(10) for x in range(20)))
+        highs = doubles(*(low + 0.125 for low in lows))
+        plane = shade_quotes(doubles(*(k / 2 for k in range(1, 21))), lows, highs)
+        self.assertLessEqual({0, 20, HATCH}, set(plane))
+        file, _ = encode(plane, 20, 10, palette=GREYS)
+        self.assertEqual(bytes(bmp_writer.read(file).cells.tolist()), plane)
+
+    def test_threads(self):
+        scales = [doubles(*range(k, k + 100)) for k in range(40)]
+        prices = doubles(*(k / 8 for k in range(1000)))
+        with ThreadPoolExecutor(4) as pool:
+            planes = list(pool.map(lambda edges: shade_quotes(edges, prices, prices), scales))
+        self.assertEqual(planes, [bytes(min(max(k // 8 - first + 1, 0), 100) for k in range(1000)) for first in range(40)])
+
+    @unittest.skipUnless(numpy, "numpy is not installed")
+    def test_arrays(self):
+        lows = numpy.linspace(0, 250, 20000).reshape(100, 200)
+        edges = numpy.arange(254.0)
+        for view in (lows, lows.T, lows[::2, ::3], lows[::-1], numpy.asfortranarray(lows)):
+            plane = shade_quotes(edges, view, view + 0.25)
+            shades = [numpy.searchsorted(edges, ends, "right") for ends in (view, view + 0.25)]
+            indices = numpy.where(shades[0] == shades[1], shades[0], HATCH)
+            self.assertEqual(numpy.frombuffer(plane, "uint8").reshape(view.shape).tolist(), indices.tolist())
+        for kind in ("float32", ">f8", "int64", "complex128", "object"):
+            self.wrong(TypeError, ["lows: numpy.ndarray with items '"], edges, lows.astype(kind), lows)
+        self.wrong(ValueError, ["lows: shape (); one dimension or two"], edges, numpy.float64(1), lows)
 
 
 class Errors(unittest.TestCase):
