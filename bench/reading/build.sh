@@ -14,17 +14,7 @@ mkdir -p "$build"
 link=()
 if [ -n "${STANDIN:-}" ]; then
     place=${OUT:-/tmp}
-    work=$(mktemp -d)
-    trap 'rm -rf "$work"' EXIT
-    "${compile[@]}" -C panic=abort --crate-type staticlib --crate-name standin -o "$work/whole.a" "$here/standin.rs"
-    # One object with two global names: nothing else in it can meet a name of the program that it is linked into. The
-    # core library's bit code goes, since another LLVM may be unable to read it.
-    names=(bmp_read bmp_read_sizes)
-    ld -r --gc-sections "${names[@]/#/--undefined=}" -o "$work/standin.o" "$work/whole.a"
-    objcopy --strip-debug -R .llvmbc -R .llvmcmd "${names[@]/#/--keep-global-symbol=}" "$work/standin.o"
-    rm -f "$place/libstandin.a"
-    ar rcs "$place/libstandin.a" "$work/standin.o"
-    echo "built $place/libstandin.a"
+    bash "$here/../standin.sh" "$here/standin.rs" "$place/libstandin.a" bmp_read bmp_read_sizes
     # The library may already have the two names; the first one that is linked counts.
     link=(-L native="$place" -l static=standin -C link-arg=-Wl,--allow-multiple-definition)
 fi

@@ -17,11 +17,11 @@ unsafe extern "C" {
 }
 
 /// NULL for an empty slice: the interface allows it.
-fn start<T>(slice: &[T]) -> *const T {
+pub fn start<T>(slice: &[T]) -> *const T {
     if slice.is_empty() { std::ptr::null() } else { slice.as_ptr() }
 }
 
-fn start_mut<T>(slice: &mut [T]) -> *mut T {
+pub fn start_mut<T>(slice: &mut [T]) -> *mut T {
     if slice.is_empty() { std::ptr::null_mut() } else { slice.as_mut_ptr() }
 }
 

@@ -1,33 +1,12 @@
 //! The model under the names of the C interface, for trying everything before the library has the two functions.
-//! Without the standard library it links into a C program, a shared library or a Rust program alike.
 #![no_std]
 
+#[path = "../bare.rs"]
+mod bare;
 mod model;
 
-use core::slice;
+use bare::{lent, lent_mut};
 use model::{Reading, Sizes};
-
-unsafe extern "C" {
-    fn abort() -> !;
-}
-
-#[panic_handler]
-fn panic(_: &core::panic::PanicInfo<'_>) -> ! {
-    unsafe { abort() }
-}
-
-/// The core library names it, and nothing here unwinds.
-#[unsafe(no_mangle)]
-extern "C" fn rust_eh_personality() {}
-
-/// NULL with length 0 is an empty slice.
-unsafe fn lent<'a, T>(start: *const T, len: usize) -> &'a [T] {
-    if len == 0 { &[] } else { unsafe { slice::from_raw_parts(start, len) } }
-}
-
-unsafe fn lent_mut<'a, T>(start: *mut T, len: usize) -> &'a mut [T] {
-    if len == 0 { &mut [] } else { unsafe { slice::from_raw_parts_mut(start, len) } }
-}
 
 /// # Safety
 /// Each pointer goes with its length, and no lent slice overlaps another.
