@@ -1,5 +1,5 @@
 #!/usr/bin/env bash
-# bash bench/quotes/build.sh: builds the driver against target/staticlib/libcapi.a.
+# bash bench/quotes/build.sh: builds the driver and the benchmark against target/staticlib/libcapi.a.
 # OUT is where they go, target/quotes if it is not set. With STANDIN=1 bmp_shade_quotes is the model's, in a library of
 # its own, $OUT/libquotes_standin.a (/tmp/libquotes_standin.a if OUT is not set); the rest is still libcapi.a's.
 set -euo pipefail
@@ -25,4 +25,5 @@ fi
 
 link+=(-L native="$library" -l static=capi)
 "${compile[@]}" --crate-name quotes "${link[@]}" -o "$build/quotes" "$here/main.rs"
-echo "built $build/quotes"
+"${compile[@]}" --crate-name quotes_speed "${link[@]}" -o "$build/quotes_speed" "$here/speed.rs"
+echo "built $build/quotes and $build/quotes_speed"
