@@ -95,12 +95,13 @@ module _ (edges ends blocks : List Float) (scale : notScale edges ≡ false) (s 
         | no p ↦ absurd (true≢false (sym e ∙ behind price k (omega arith) (omega (arith, s .long))))
       ]
 
-  pub levels : Levels ends blocks
+  pub levels : Levels (length edges / 16) ends blocks
   unfolding isNan
   levels = record {
     long = s .long;
     falls = blocks-fall;
-    open-end = ap isNan (s .each 255 (omega arith) ∙ List·getD-eq-default edges nan {n = 255} (omega (arith, few-edges edges scale)));
+    few = omega (arith, few-edges edges scale);
+    open-end = ap isNan (s .each (16 * (length edges / 16) + 15) (omega (arith, few-edges edges scale)) ∙ List·getD-eq-default edges nan {n = 16 * (length edges / 16) + 15} (omega arith));
     block-ends = s .block-ends;
   }
 
@@ -152,10 +153,10 @@ pub ends-same : (i n t : ℕ) → n ≡ endsBefore i t → t ≤ 16 * i + 15 →
 unfolding endsBefore
 ends-same i n t e h = omega arith
 
--- after sixteen ends the block is known
-pub ends-all : (n t : ℕ) → n ≡ endsBefore 16 t → t ≤ 255 → (n ≤ 15) × (16 * n ≤ t) × (t < 16 * n + 16)
+-- after the ends of the full blocks the block is known
+pub ends-all : (full n t : ℕ) → full ≤ 15 → n ≡ endsBefore full t → t ≤ 16 * full + 15 → (n ≤ 15) × (16 * n ≤ t) × (t < 16 * n + 16)
 unfolding endsBefore
-ends-all n t e h = (omega arith, omega arith, omega arith)
+ends-all full n t f e h = (omega arith, omega arith, omega arith)
 
 pub places-none : (n m t : ℕ) → m ≡ n → n ≤ t → n ≡ placesBefore m t
 unfolding placesBefore
@@ -177,10 +178,11 @@ pub places-all : (n c t : ℕ) → c ≡ placesBefore n t → t ≤ n → c ≡ 
 unfolding placesBefore
 places-all n c t e h = omega arith
 
-module _ (ends blocks : List Float) (l : Levels ends blocks) (price : Float) where
-  -- the NaN at the end is behind every shade
-  pub shade-small : shadeOf blocks price ≤ 255
-  shade-small = parts blocks price (l .falls) 255 (omega (arith, l .long)) .over (nan-le (getD blocks 255 nan) price (l .open-end))
+module _ (full : ℕ) (ends blocks : List Float) (l : Levels full ends blocks) (price : Float) where
+  -- no shade is behind the NaN
+  pub shade-small : shadeOf blocks price ≤ 16 * full + 15
+  shade-small =
+      parts blocks price (l .falls) (16 * full + 15) (omega (arith, l .long, l .few)) .over (nan-le (getD blocks (16 * full + 15) nan) price (l .open-end))
 
   pub end-under : (i : ℕ) → i < 16 → le (getD ends i nan) price ≡ true → 16 * i + 15 < shadeOf blocks price
   end-under i h e = parts blocks price (l .falls) (16 * i + 15) (omega (arith, l .long)) .under (sym (ap (λ (x : Float). le x price) (l .block-ends i h)) ∙ e)
@@ -212,19 +214,19 @@ pub same-price : (edges : List Float) (x y : Float) → le x y ≡ true → le y
 same-price edges x y h k = let a = shade-mono edges x y h in let b = shade-mono edges y x k in omega arith
 
 -- the next edge is at or below the high, and the shades differ; or it is not, and they are one
-module _ (ends blocks : List Float) (l : Levels ends blocks) (quoted : Quote) (low : ℕ) (found : low ≡ shadeOf blocks (quoted .low)) where
+module _ (full : ℕ) (ends blocks : List Float) (l : Levels full ends blocks) (quoted : Quote) (low : ℕ) (found : low ≡ shadeOf blocks (quoted .low)) where
   pub next-small : low < 256
-  next-small = let h = shade-small ends blocks l (quoted .low) in omega arith
+  next-small = let h = shade-small full ends blocks l (quoted .low) in omega (arith, l .few)
 
   pub index-hatch : le (getD blocks low nan) (quoted .high) ≡ true → 255 ≡ indexOf blocks quoted
   unfolding indexOf
   index-hatch e =
-      let h : low < shadeOf blocks (quoted .high) = place-under ends blocks l (quoted .high) low next-small e in
+      let h : low < shadeOf blocks (quoted .high) = place-under full ends blocks l (quoted .high) low next-small e in
       rw (ne-eqb (shadeOf blocks (quoted .low)) (shadeOf blocks (quoted .high)) (λ q. omega arith))
 
   pub index-shade : notQuote quoted ≡ false → le (getD blocks low nan) (quoted .high) ≡ false → low ≡ indexOf blocks quoted
   unfolding indexOf
   index-shade good e =
-      let h : shadeOf blocks (quoted .high) ≤ low = place-over ends blocks l (quoted .high) low next-small e in
+      let h : shadeOf blocks (quoted .high) ≤ low = place-over full ends blocks l (quoted .high) low next-small e in
       let k : shadeOf blocks (quoted .low) ≤ shadeOf blocks (quoted .high) = shade-mono blocks (quoted .low) (quoted .high) (quote-le quoted good) in
       rw (eq-eqb (shadeOf blocks (quoted .low)) (shadeOf blocks (quoted .high)) (omega arith)) found

@@ -14,11 +14,12 @@ Falls edges = (price : Float) (j k : ℕ) → j ≤ k → k < length edges → l
 abbrev pub BlockEnds : List Float → List Float → Type 0
 BlockEnds ends blocks = (i : ℕ) → i < 16 → getD ends i nan ≡ getD blocks (16 * i + 15) nan
 
--- what the search needs: a NaN, which is at or below no price, stands at the end
-pub record Levels (ends blocks : List Float) : Type 0 where
+-- what the search needs: behind the full blocks one ends with a NaN, which is at or below no price
+pub record Levels (full : ℕ) (ends blocks : List Float) : Type 0 where
   pub long : length blocks ≡ 256
   pub falls : Falls blocks
-  pub open-end : isNan (getD blocks 255 nan) ≡ true
+  pub few : full ≤ 15
+  pub open-end : isNan (getD blocks (16 * full + 15) nan) ≡ true
   pub block-ends : BlockEnds ends blocks
 
 -- the edges with NaNs behind them, in blocks

@@ -69,15 +69,15 @@ fn spread(edges: &[f64], ends: &mut [f64; 16], blocks: &mut [f64; 256])
     }
 }
 
-// How many edges are at or below a price: the blocks that are so whole, then the edges of the next. No branch turns on
-// the price.
-fn shade(price: f64, ends: &[f64; 16], blocks: &[f64; 256]) -> usize
-    requires { ⌜ Levels (now ends) (now blocks) ⌝ }
+// How many edges are at or below a price: of the full blocks those that are so to their end, then the edges of the next
+// block. No branch turns on the price.
+fn shade(price: f64, full: usize, ends: &[f64; 16], blocks: &[f64; 256]) -> usize
+    requires { ⌜ Levels full (now ends) (now blocks) ⌝ }
     ensures { λ r. ⌜ r ≡ shadeOf (now (blocks .entry)) price ⌝ }
 {
     let mut whole = 0;
     let mut i = 0;
-    while i < 16 {
+    while i < full {
         let end = ends[i];
         if end <= price {
             whole += 1;
@@ -106,12 +106,12 @@ impl Quote {
     }
 
     // The shade of both ends, or the hatch. The high has the low's shade unless the next edge is at or below it too.
-    fn index(self, ends: &[f64; 16], blocks: &[f64; 256]) -> u8
-        requires { ⌜ Levels (now ends) (now blocks) ⌝ }
+    fn index(self, full: usize, ends: &[f64; 16], blocks: &[f64; 256]) -> u8
+        requires { ⌜ Levels full (now ends) (now blocks) ⌝ }
         requires { ⌜ notQuote self ≡ false ⌝ }
         ensures { λ r. ⌜ r ≡ indexOf (now (blocks .entry)) self ⌝ }
     {
-        let low = shade(self.low, ends, blocks);
+        let low = shade(self.low, full, ends, blocks);
         let next = blocks[low];
         if next <= self.high { HATCH } else { low as u8 }
     }
@@ -125,10 +125,9 @@ fn are_quotes(lows: &[f64], highs: &[f64]) -> bool
     let n = lows.len();
     let mut k = 0;
     while k < n {
-        let quoted = Quote {
-            low: lows[k],
-            high: highs[k],
-        };
+        let low = lows[k];
+        let high = highs[k];
+        let quoted = Quote { low, high };
         let good = quoted.is_quote();
         if good {
             k += 1;
@@ -150,14 +149,14 @@ fn fill(edges: &[f64], lows: &[f64], highs: &[f64], plane: &mut [u8])
     let mut ends = [0.0f64; 16];
     let mut blocks = [0.0f64; 256];
     spread(edges, &mut ends, &mut blocks);
+    let full = edges.len() / 16;
     let count = lows.len();
     let mut k = 0;
     while k < count {
-        let quoted = Quote {
-            low: lows[k],
-            high: highs[k],
-        };
-        let shown = quoted.index(&ends, &blocks);
+        let low = lows[k];
+        let high = highs[k];
+        let quoted = Quote { low, high };
+        let shown = quoted.index(full, &ends, &blocks);
         plane[k] = shown;
         k += 1;
     }

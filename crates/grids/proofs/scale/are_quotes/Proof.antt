@@ -19,17 +19,17 @@ abbrev μ-loop : tie.MeasureT-loop
 loop-holds : tie.Need-loop-holds Inv-loop μ-loop
 loop-holds c = (omega arith, no-quotes (c .before .before .args .lows .now) (c .before .before .args .highs .now))
 
-mul-t8 : tie.Need-mul-t8 Inv-loop μ-loop
-mul-t8 c = omega arith
+mul-low : tie.Need-mul-low Inv-loop μ-loop
+mul-low c = omega arith
 
-shared-slice-read-t10 : tie.Need-shared-slice-read-t10 Inv-loop μ-loop
-shared-slice-read-t10 c = omega arith
+shared-slice-read-low : tie.Need-shared-slice-read-low Inv-loop μ-loop
+shared-slice-read-low c = omega arith
 
-mul-t11 : tie.Need-mul-t11 Inv-loop μ-loop
-mul-t11 c = omega arith
+mul-high : tie.Need-mul-high Inv-loop μ-loop
+mul-high c = omega arith
 
-shared-slice-read-t13 : tie.Need-shared-slice-read-t13 Inv-loop μ-loop
-shared-slice-read-t13 c = omega arith
+shared-slice-read-high : tie.Need-shared-slice-read-high Inv-loop μ-loop
+shared-slice-read-high c = omega arith
 
 is-quote-requires : tie.Need-is-quote-requires Inv-loop μ-loop
 is-quote-requires c κs = search needs
@@ -44,8 +44,10 @@ loop-again : tie.Need-loop-again Inv-loop μ-loop
 unfolding quoteAt
 loop-again c =
     let a = c .before .before .before .before .before .before .before .before .args in
-    let l = c .before .before .before .before .before .loop in
-    (omega arith, quotes-turn (a .lows .now) (a .highs .now) (l .k) (l .inv .1) (not-true (notQuote (quoteAt (a .lows .now) (a .highs .now) (l .k))) (sym (c .before .is-quote .ensures) ∙ c .if1 .taken)))
+    let l = c .before .before .before .before .before .loop in (
+      omega arith,
+      quotes-turn (a .lows .now) (a .highs .now) (l .k) (l .inv .1) (not-true (notQuote (quoteAt (a .lows .now) (a .highs .now) (l .k))) (sym (c .before .is-quote .ensures) ∙ c .if1 .taken)),
+    )
 
 returns : tie.Need-returns Inv-loop μ-loop
 unfolding quoteAt
@@ -68,10 +70,10 @@ are-quotes-spec =
     Inv-loop
     μ-loop
     loop-holds
-    mul-t8
-    shared-slice-read-t10
-    mul-t11
-    shared-slice-read-t13
+    mul-low
+    shared-slice-read-low
+    mul-high
+    shared-slice-read-high
     is-quote-requires
     add-k
     loop-less

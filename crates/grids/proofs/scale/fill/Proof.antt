@@ -11,10 +11,10 @@ use Rattle.grids.proofs.scale.fill.Statement.{statement}
 use Rattle.grids.proofs.scale.fill.Tie as tie
 
 abbrev Inv-loop : tie.InvT-loop
-Inv-loop edges lows highs plane₀ ends blocks count k₀ plane k = (k ≤ count) × (length plane ≡ length plane₀) × (put plane k (drop k (indicesOf edges lows highs)) ≡ put plane₀ 0 (indicesOf edges lows highs))
+Inv-loop edges lows highs plane₀ ends blocks full count k₀ plane k = (k ≤ count) × (length plane ≡ length plane₀) × (put plane k (drop k (indicesOf edges lows highs)) ≡ put plane₀ 0 (indicesOf edges lows highs))
 
 abbrev μ-loop : tie.MeasureT-loop
-μ-loop edges lows highs plane₀ ends blocks count k₀ plane k = count - k
+μ-loop edges lows highs plane₀ ends blocks full count k₀ plane k = count - k
 
 spread-requires : tie.Need-spread-requires Inv-loop μ-loop
 spread-requires c κs = (refl, refl)
@@ -22,17 +22,17 @@ spread-requires c κs = (refl, refl)
 loop-holds : tie.Need-loop-holds Inv-loop μ-loop
 loop-holds c = (omega arith, refl, refl)
 
-mul-t15 : tie.Need-mul-t15 Inv-loop μ-loop
-mul-t15 c = omega arith
+mul-low : tie.Need-mul-low Inv-loop μ-loop
+mul-low c = omega arith
 
-shared-slice-read-t17 : tie.Need-shared-slice-read-t17 Inv-loop μ-loop
-shared-slice-read-t17 c = omega arith
+shared-slice-read-low : tie.Need-shared-slice-read-low Inv-loop μ-loop
+shared-slice-read-low c = omega arith
 
-mul-t18 : tie.Need-mul-t18 Inv-loop μ-loop
-mul-t18 c = omega arith
+mul-high : tie.Need-mul-high Inv-loop μ-loop
+mul-high c = omega arith
 
-shared-slice-read-t20 : tie.Need-shared-slice-read-t20 Inv-loop μ-loop
-shared-slice-read-t20 c = omega arith
+shared-slice-read-high : tie.Need-shared-slice-read-high Inv-loop μ-loop
+shared-slice-read-high c = omega arith
 
 index-requires : tie.Need-index-requires Inv-loop μ-loop
 unfolding quoteAt
@@ -40,8 +40,10 @@ index-requires c κs =
     let a = c .before .before .before .before .before .before .before .before .before .before .before .before .before .args in
     let p = c .before .before .before .before .before .before .before .before .before .before .before .before .before .pre in
     let s = c .before .before .before .before .before .before .spread in
-    let l = c .before .before .before .before .before .loop in
-    (levels (a .edges .now) (s .last .1 .0) (s .last .1 .1 .0) (p .1 .1 .0) (s .ensures), each-quote (a .lows .now) (a .highs .now) (length (a .lows .now)) (l .k) (p .1 .1 .1) (omega arith))
+    let l = c .before .before .before .before .before .loop in (
+      levels (a .edges .now) (s .last .1 .0) (s .last .1 .1 .0) (p .1 .1 .0) (s .ensures),
+      each-quote (a .lows .now) (a .highs .now) (length (a .lows .now)) (l .k) (p .1 .1 .1) (omega arith),
+    )
 
 slice-write-plane : tie.Need-slice-write-plane Inv-loop μ-loop
 slice-write-plane c = omega arith
@@ -58,8 +60,11 @@ loop-again c =
     let a = c .before .before .before .before .before .before .before .before .before .before .before .before .before .before .args in
     let p = c .before .before .before .before .before .before .before .before .before .before .before .before .before .before .pre in
     let s = c .before .before .before .before .before .before .before .spread in
-    let l = c .before .before .before .before .before .before .loop in
-    (omega arith, simp length-set (l .inv .1), paint-turn (a .edges .now) (a .lows .now) (a .highs .now) (l .plane) (l .k) (c .index .result) (omega arith) (omega arith) (c .index .ensures ∙ same-index (a .edges .now) (s .last .1 .0) (s .last .1 .1 .0) (p .1 .1 .0) (s .ensures) (quoteAt (a .lows .now) (a .highs .now) (l .k))) ∙ l .inv .2)
+    let l = c .before .before .before .before .before .before .loop in (
+      omega arith,
+      simp length-set (l .inv .1),
+      paint-turn (a .edges .now) (a .lows .now) (a .highs .now) (l .plane) (l .k) (c .index .result) (omega arith) (omega arith) (c .index .ensures ∙ same-index (a .edges .now) (s .last .1 .0) (s .last .1 .1 .0) (p .1 .1 .0) (s .ensures) (quoteAt (a .lows .now) (a .highs .now) (l .k))) ∙ l .inv .2,
+    )
 
 same-length : tie.Need-same-length Inv-loop μ-loop
 same-length c = omega arith
@@ -78,10 +83,10 @@ fill-spec =
     μ-loop
     spread-requires
     loop-holds
-    mul-t15
-    shared-slice-read-t17
-    mul-t18
-    shared-slice-read-t20
+    mul-low
+    shared-slice-read-low
+    mul-high
+    shared-slice-read-high
     index-requires
     slice-write-plane
     add-k

@@ -8,16 +8,16 @@ use Rattle.grids.proofs.scale.shade.Statement.{statement}
 use Rattle.grids.proofs.scale.shade.Tie as tie
 
 abbrev Inv-loop : tie.InvT-loop
-Inv-loop price ends blocks whole₀ i₀ whole i = (i ≤ 16) × (whole ≡ endsBefore i (shadeOf blocks price))
+Inv-loop price full ends blocks whole₀ i₀ whole i = (i ≤ full) × (whole ≡ endsBefore i (shadeOf blocks price))
 
 abbrev μ-loop : tie.MeasureT-loop
-μ-loop price ends blocks whole₀ i₀ whole i = 16 - i
+μ-loop price full ends blocks whole₀ i₀ whole i = full - i
 
 abbrev Inv-loop2 : tie.InvT-loop2
-Inv-loop2 price ends blocks whole i base count₀ k₀ count k = (k ≤ 16) × (base ≤ 240) × (count ≡ placesBefore (base + k) (shadeOf blocks price))
+Inv-loop2 price full ends blocks whole i base count₀ k₀ count k = (k ≤ 16) × (base ≤ 240) × (count ≡ placesBefore (base + k) (shadeOf blocks price))
 
 abbrev μ-loop2 : tie.MeasureT-loop2
-μ-loop2 price ends blocks whole i base count₀ k₀ count k = 16 - k
+μ-loop2 price full ends blocks whole i base count₀ k₀ count k = 16 - k
 
 loop-holds : tie.Need-loop-holds Inv-loop μ-loop Inv-loop2 μ-loop2
 loop-holds c = (omega arith, ends-none (shadeOf (c .args .blocks .now) (c .args .price)))
@@ -45,8 +45,13 @@ loop-again c =
     let a = c .before .before .before .before .args in
     let v = c .before .before .before .before .pre in
     let l = c .before .before .before .loop in
-    let t = shadeOf (a .blocks .now) (a .price) in
-    (omega arith, ⊎-elim (λ w. w .1 ∙ ends-up (l .i) (l .whole) t (l .inv .1) (end-under (a .ends .now) (a .blocks .now) v (a .price) (l .i) (omega arith) (w .0 .taken))) (λ w. w .1 ∙ ends-same (l .i) (l .whole) t (l .inv .1) (end-over (a .ends .now) (a .blocks .now) v (a .price) (l .i) (omega arith) (w .0 .left))) (c .if1 .came))
+    let t = shadeOf (a .blocks .now) (a .price) in (
+      omega arith,
+      ⊎-elim
+          (λ w. w .1 ∙ ends-up (l .i) (l .whole) t (l .inv .1) (end-under (a .full) (a .ends .now) (a .blocks .now) v (a .price) (l .i) (omega arith) (w .0 .taken)))
+          (λ w. w .1 ∙ ends-same (l .i) (l .whole) t (l .inv .1) (end-over (a .full) (a .ends .now) (a .blocks .now) v (a .price) (l .i) (omega arith) (w .0 .left)))
+          (c .if1 .came),
+    )
 
 mul-base : tie.Need-mul-base Inv-loop μ-loop Inv-loop2 μ-loop2
 mul-base c =
@@ -60,8 +65,8 @@ loop2-holds c =
     let v = c .before .before .pre in
     let l = c .before .loop in
     let t = shadeOf (a .blocks .now) (a .price) in
-    let e : l .i ≡ 16 = omega arith in
-    let w = ends-all (l .whole) t (rw e at (l .inv .1)) (shade-small (a .ends .now) (a .blocks .now) v (a .price)) in
+    let e : l .i ≡ a .full = omega arith in
+    let w = ends-all (a .full) (l .whole) t (v .few) (rw e at (l .inv .1)) (shade-small (a .full) (a .ends .now) (a .blocks .now) v (a .price)) in
     (omega arith, omega (arith, w .0), places-none (16 * l .whole) (16 * l .whole + 0) t (omega arith) (w .1))
 
 add-edge : tie.Need-add-edge Inv-loop μ-loop Inv-loop2 μ-loop2
@@ -91,8 +96,14 @@ loop2-again c =
     let v = c .before .before .before .before .before .before .pre in
     let b = 16 * c .before .before .before .before .before .loop .whole in
     let m = c .before .before .before .loop2 in
-    let t = shadeOf (a .blocks .now) (a .price) in
-    (omega arith, m .inv .1, ⊎-elim (λ w. w .1 ∙ places-up (b + m .k) (m .count) (b + (m .k + 1)) t (m .inv .2) (omega arith) (place-under (a .ends .now) (a .blocks .now) v (a .price) (b + m .k) (omega arith) (w .0 .taken))) (λ w. w .1 ∙ places-same (b + m .k) (m .count) (b + (m .k + 1)) t (m .inv .2) (omega arith) (place-over (a .ends .now) (a .blocks .now) v (a .price) (b + m .k) (omega arith) (w .0 .left))) (c .if2 .came))
+    let t = shadeOf (a .blocks .now) (a .price) in (
+      omega arith,
+      m .inv .1,
+      ⊎-elim
+          (λ w. w .1 ∙ places-up (b + m .k) (m .count) (b + (m .k + 1)) t (m .inv .2) (omega arith) (place-under (a .full) (a .ends .now) (a .blocks .now) v (a .price) (b + m .k) (omega arith) (w .0 .taken)))
+          (λ w. w .1 ∙ places-same (b + m .k) (m .count) (b + (m .k + 1)) t (m .inv .2) (omega arith) (place-over (a .full) (a .ends .now) (a .blocks .now) v (a .price) (b + m .k) (omega arith) (w .0 .left)))
+          (c .if2 .came),
+    )
 
 returns : tie.Need-returns Inv-loop μ-loop Inv-loop2 μ-loop2
 returns c =
@@ -101,9 +112,9 @@ returns c =
     let l = c .before .before .before .loop in
     let m = c .before .loop2 in
     let t = shadeOf (a .blocks .now) (a .price) in
-    let e : l .i ≡ 16 = omega arith in
+    let e : l .i ≡ a .full = omega arith in
     let f : m .k ≡ 16 = omega arith in
-    let w = ends-all (l .whole) t (rw e at (l .inv .1)) (shade-small (a .ends .now) (a .blocks .now) v (a .price)) in
+    let w = ends-all (a .full) (l .whole) t (v .few) (rw e at (l .inv .1)) (shade-small (a .full) (a .ends .now) (a .blocks .now) v (a .price)) in
     places-all (16 * l .whole + m .k) (m .count) t (m .inv .2) (omega (arith, w .2))
 
 pub shade-spec : {M : Type 1} → statement M

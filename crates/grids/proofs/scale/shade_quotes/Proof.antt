@@ -26,8 +26,10 @@ fill-requires : tie.Need-fill-requires
 fill-requires c κs =
     let a = c .before .before .before .before .before .before .before .before .before .before .before .args in
     let s = c .before .before .before .before .is-scale in
-    let q = c .before .before .are-quotes in
-    (omega arith, (omega arith, (passes (s .result) (notScale (a .edges .now)) (s .ensures) (c .before .before .before .if3 .taken), passes (q .result) (someNotQuote (a .lows .now) (a .highs .now) (length (a .lows .now))) (q .ensures) (c .before .if4 .taken))))
+    let q = c .before .before .are-quotes in (
+      omega arith,
+      (omega arith, (passes (s .result) (notScale (a .edges .now)) (s .ensures) (c .before .before .before .if3 .taken), passes (q .result) (someNotQuote (a .lows .now) (a .highs .now) (length (a .lows .now))) (q .ensures) (c .before .if4 .taken))),
+    )
 
 same-length : tie.Need-same-length
 same-length c = search needs

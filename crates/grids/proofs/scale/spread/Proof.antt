@@ -50,8 +50,13 @@ loop-less c = omega arith
 loop-again : tie.Need-loop-again Inv-loop μ-loop Inv-loop2 μ-loop2
 loop-again c =
     let a = c .before .before .before .args in
-    let l = c .before .before .loop in
-    (omega arith, ⊎-elim (λ w. rw (w .2) (placed-turn (getD (a .edges .now) (l .k) nan) (l .inv .1) (omega arith) refl)) (λ w. rw (w .1) (placed-turn (div binary64 (ofBits binary64 0) (ofBits binary64 0)) (l .inv .1) (omega arith) (nan-is ∙ sym (List·getD-eq-default (a .edges .now) nan {n = l .k} (w .0 .left))))) (c .if1 .came))
+    let l = c .before .before .loop in (
+      omega arith,
+      ⊎-elim
+          (λ w. rw (w .2) (placed-turn (getD (a .edges .now) (l .k) nan) (l .inv .1) (omega arith) refl))
+          (λ w. rw (w .1) (placed-turn (div binary64 (ofBits binary64 0) (ofBits binary64 0)) (l .inv .1) (omega arith) (nan-is ∙ sym (List·getD-eq-default (a .edges .now) nan {n = l .k} (w .0 .left)))))
+          (c .if1 .came),
+    )
 
 loop2-holds : tie.Need-loop2-holds Inv-loop μ-loop Inv-loop2 μ-loop2
 loop2-holds c =
