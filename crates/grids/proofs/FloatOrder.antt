@@ -1,8 +1,8 @@
--- The order of prices, from the kit's definitions: at or below is transitive and, between numbers, the same as not above; what compares is a number; prices
--- that compare as equal, as -0 and 0 do, compare alike with all others.
+-- The order of prices, from the kit's definitions: at or below, and below, are transitive; between numbers at or below is the same as not
+-- above; what compares is a number.
 use mathlib.Core.Path.{_≡_, refl, sym, ap, subst, _∙_}
 use mathlib.Core.Logic.{inl, inr}
-use mathlib.Core.Bool.{Bool, true, false, not, _&&_, _||_}
+use mathlib.Core.Bool.{Bool, true, false, true≢false, not, _&&_, _||_}
 use Prim.Native.Nat.{ℕ, _+_, _*_, _≤_, _<_}
 use native.Mathlib.Nat.{le-of-lt, le-of-eq, mul-le-mul-right, le-of-mul-le-mul-right, eq-or-lt-of-le}
 use native.Mathlib.Omega.{arith}
@@ -205,16 +205,28 @@ le-is (fin s m e) (inf true) = refl
 le-is (fin s m e) (inf false) = refl
 le-is (fin s m e) (fin t n d) = not-above s t (m * up e * down d) (n * up d * down e)
 
--- what is above something is a number
-pub lt-number : (x y : Float) → T (lt x y) → isNan y ≡ false
+-- what compares is a number
+pub lt-number : (x y : Float) → T (lt x y) → (isNan x ≡ false) × (isNan y ≡ false)
 unfolding lt isNan
 lt-number nan y h = absurd h
 lt-number (inf s) nan h = absurd h
-lt-number (inf s) (inf t) h = refl
-lt-number (inf s) (fin t n d) h = refl
+lt-number (inf s) (inf t) h = (refl, refl)
+lt-number (inf s) (fin t n d) h = (refl, refl)
 lt-number (fin s m e) nan h = absurd h
-lt-number (fin s m e) (inf t) h = refl
-lt-number (fin s m e) (fin t n d) h = refl
+lt-number (fin s m e) (inf t) h = (refl, refl)
+lt-number (fin s m e) (fin t n d) h = (refl, refl)
+
+-- below, then below: else the third would be at or below the first, and so at or below the second
+pub lt-trans : (x y z : Float) → T (lt x y) → T (lt y z) → T (lt x z)
+lt-trans x y z h k = go (lt x z) refl
+  where
+    go : (b : Bool) → lt x z ≡ b → T b
+    go true e = tt
+    go false e =
+        let below : lt y z ≡ true = truth k in
+        let back : T (le z x) = holds (le-is z x ∙ rw (lt-number y z k .1, lt-number x y h .0, e)) in
+        let over : le z y ≡ true = truth (le-trans z x y back (lt-le x y h)) in
+        absurd (true≢false (sym over ∙ le-is z y ∙ rw (lt-number y z k .1, lt-number y z k .0, below)))
 
 -- the code's test for a NaN
 pub ne-self : (x : Float) → ne x x ≡ isNan x

@@ -8,13 +8,13 @@ use native.Mathlib.Nat.{not-suc-le-zero, le-of-suc-le-suc, eq-or-lt-of-le}
 use native.Mathlib.Numerals.{add-one}
 use native.Mathlib.Omega.{arith}
 use borrow.Author.Tests.{ltb-false, le-ltb, lt-ltb, not-false}
-use lib.Dec.{ltb}
+use lib.Dec.{T, ltb}
 use lib.Ieee.{Float, nan, isNan, lt, le}
 use lib.ListN.{length, getD, drop, drop-of-length-le}
 use lib.Seq.{drop-cons}
 use Rattle.grids.specs.Scale.{someNan, risesFrom, rises, notScale, quoteAt, notQuote, someNotQuote}
 use Rattle.grids.specs.declared.scale.Quote.{Quote}
-use Rattle.grids.proofs.FloatOrder.{truth, holds, le-trans, lt-le, lt-number, le-is}
+use Rattle.grids.proofs.FloatOrder.{truth, holds, le-trans, lt-le, lt-trans, lt-number, le-is}
 
 -- ---- tests joined
 
@@ -46,7 +46,7 @@ numbers-above : (before : Float) (edges : List Float) → risesFrom before edges
 unfolding someNan risesFrom
 numbers-above before [] h = refl
 numbers-above before (edge ∷ edges) h =
-    rw (lt-number before edge (holds (both-left (lt before edge) (risesFrom edge edges) h)))
+    rw (lt-number before edge (holds (both-left (lt before edge) (risesFrom edge edges) h)) .1)
     (numbers-above edge edges (both-right (lt before edge) (risesFrom edge edges) h))
 
 -- so of edges that rise only the first can be a NaN
@@ -138,6 +138,22 @@ earlier (edge ∷ edges) price zero zero r h l e = e
 earlier (edge ∷ edges) price zero (suc k) r h l e = under edge edges price k r (le-of-suc-le-suc l) e
 earlier (edge ∷ edges) price (suc j) zero r h l e = absurd (not-suc-le-zero h)
 earlier (edge ∷ edges) price (suc j) (suc k) r h l e = earlier edges price j k (tail-rises edge edges r) (le-of-suc-le-suc h) (le-of-suc-le-suc l) e
+
+-- strictly rising: each edge is below all later ones
+below-all : (before : Float) (edges : List Float) (k : ℕ) → risesFrom before edges ≡ true → k < length edges → T (lt before (getD edges k nan))
+unfolding risesFrom
+below-all before [] k r h = absurd (not-suc-le-zero h)
+below-all before (edge ∷ edges) zero r h = holds (both-left (lt before edge) (risesFrom edge edges) r)
+below-all before (edge ∷ edges) (suc k) r h =
+    lt-trans before edge (getD edges k nan) (holds (both-left (lt before edge) (risesFrom edge edges) r))
+    (below-all edge edges k (both-right (lt before edge) (risesFrom edge edges) r) (le-of-suc-le-suc h))
+
+pub edges-apart : (edges : List Float) (j k : ℕ) → rises edges ≡ true → j < k → k < length edges → lt (getD edges j nan) (getD edges k nan) ≡ true
+unfolding rises
+edges-apart [] j k r h l = absurd (not-suc-le-zero l)
+edges-apart (edge ∷ edges) j zero r h l = absurd (not-suc-le-zero h)
+edges-apart (edge ∷ edges) zero (suc k) r h l = truth (below-all edge edges k r (le-of-suc-le-suc l))
+edges-apart (edge ∷ edges) (suc j) (suc k) r h l = edges-apart edges j k (tail-rises edge edges r) (le-of-suc-le-suc h) (le-of-suc-le-suc l)
 
 -- ---- the check of quotes
 
