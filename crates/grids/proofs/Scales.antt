@@ -13,31 +13,11 @@ use lib.Ieee.{Float, nan, isNan, lt, le}
 use lib.ListN.{length, getD, drop, drop-of-length-le}
 use lib.Seq.{drop-cons}
 use Rattle.grids.specs.Scale.{someNan, risesFrom, rises, notScale, quoteAt, notQuote, someNotQuote}
+use Rattle.leaves.proofs.Tests.{or-first, or-second}
+use Rattle.format.proofs.Modes.{both}
+use Rattle.format.proofs.Passing.{or-false}
 use Rattle.grids.specs.declared.scale.Quote.{Quote}
 use Rattle.grids.proofs.FloatOrder.{truth, holds, le-trans, lt-le, lt-trans, lt-number, le-is}
-
--- ---- tests joined
-
-both-left : (a b : Bool) → a && b ≡ true → a ≡ true
-both-left true b e = refl
-both-left false b e = e
-
-both-right : (a b : Bool) → a && b ≡ true → b ≡ true
-both-right true b e = e
-both-right false b e = go b e
-  where
-    go : (b : Bool) → false ≡ true → b ≡ true
-    go true e = refl
-    go false e = e
-
-neither-left : (a b : Bool) → a || b ≡ false → a ≡ false
-neither-left true b e = e
-neither-left false b e = refl
-
-neither-right : (a b : Bool) → a || b ≡ false → b ≡ false
-neither-right true true e = e
-neither-right true false e = refl
-neither-right false b e = e
 
 -- ---- the check of a scale
 
@@ -46,8 +26,8 @@ numbers-above : (before : Float) (edges : List Float) → risesFrom before edges
 unfolding someNan risesFrom
 numbers-above before [] h = refl
 numbers-above before (edge ∷ edges) h =
-    rw (lt-number before edge (holds (both-left (lt before edge) (risesFrom edge edges) h)) .1)
-    (numbers-above edge edges (both-right (lt before edge) (risesFrom edge edges) h))
+    rw (lt-number before edge (holds (both (lt before edge) (risesFrom edge edges) h .0)) .1)
+    (numbers-above edge edges (both (lt before edge) (risesFrom edge edges) h .1))
 
 -- so of edges that rise only the first can be a NaN
 absorb : (p q : Bool) → (q ≡ true → p ≡ false) → p || not q ≡ not q
@@ -99,19 +79,15 @@ module _ (edges : List Float) (before : Float) (i : ℕ) where
 -- ---- what a scale is
 
 module _ (edges : List Float) (scale : notScale edges ≡ false) where
-  pub few-edges : length edges ≤ 254
+  parts : ((ltb (length edges) 1 || ltb 254 (length edges)) ≡ false) × ((someNan edges || not (rises edges)) ≡ false)
   unfolding notScale
-  few-edges =
-      ltb-false 254 (length edges)
-      (neither-right (ltb (length edges) 1) (ltb 254 (length edges))
-      (neither-left (ltb (length edges) 1 || ltb 254 (length edges)) (someNan edges || not (rises edges)) scale))
+  parts = or-false (ltb (length edges) 1 || ltb 254 (length edges)) (someNan edges || not (rises edges)) scale
+
+  pub few-edges : length edges ≤ 254
+  few-edges = ltb-false 254 (length edges) (or-false (ltb (length edges) 1) (ltb 254 (length edges)) (parts .0) .1)
 
   pub scale-rises : rises edges ≡ true
-  unfolding notScale
-  scale-rises =
-      not-false (rises edges)
-      (neither-right (someNan edges) (not (rises edges))
-      (neither-right (ltb (length edges) 1 || ltb 254 (length edges)) (someNan edges || not (rises edges)) scale))
+  scale-rises = not-false (rises edges) (or-false (someNan edges) (not (rises edges)) (parts .1) .1)
 
 -- an edge at or below a price has all before it at or below it
 under : (before : Float) (edges : List Float) (price : Float) (k : ℕ) → risesFrom before edges ≡ true → k < length edges
@@ -119,16 +95,16 @@ under : (before : Float) (edges : List Float) (price : Float) (k : ℕ) → rise
 unfolding risesFrom
 under before [] price k r h l = absurd (not-suc-le-zero h)
 under before (edge ∷ edges) price zero r h l =
-    truth (le-trans before edge price (lt-le before edge (holds (both-left (lt before edge) (risesFrom edge edges) r))) (holds l))
+    truth (le-trans before edge price (lt-le before edge (holds (both (lt before edge) (risesFrom edge edges) r .0))) (holds l))
 under before (edge ∷ edges) price (suc k) r h l =
     truth
-    (le-trans before edge price (lt-le before edge (holds (both-left (lt before edge) (risesFrom edge edges) r)))
-    (holds (under edge edges price k (both-right (lt before edge) (risesFrom edge edges) r) (le-of-suc-le-suc h) l)))
+    (le-trans before edge price (lt-le before edge (holds (both (lt before edge) (risesFrom edge edges) r .0)))
+    (holds (under edge edges price k (both (lt before edge) (risesFrom edge edges) r .1) (le-of-suc-le-suc h) l)))
 
 tail-rises : (first : Float) (edges : List Float) → risesFrom first edges ≡ true → rises edges ≡ true
 unfolding rises risesFrom
 tail-rises first [] r = refl
-tail-rises first (edge ∷ edges) r = both-right (lt first edge) (risesFrom edge edges) r
+tail-rises first (edge ∷ edges) r = both (lt first edge) (risesFrom edge edges) r .1
 
 pub earlier : (edges : List Float) (price : Float) (j k : ℕ) → rises edges ≡ true → j ≤ k → k < length edges
     → le (getD edges k nan) price ≡ true → le (getD edges j nan) price ≡ true
@@ -143,10 +119,10 @@ earlier (edge ∷ edges) price (suc j) (suc k) r h l e = earlier edges price j k
 below-all : (before : Float) (edges : List Float) (k : ℕ) → risesFrom before edges ≡ true → k < length edges → T (lt before (getD edges k nan))
 unfolding risesFrom
 below-all before [] k r h = absurd (not-suc-le-zero h)
-below-all before (edge ∷ edges) zero r h = holds (both-left (lt before edge) (risesFrom edge edges) r)
+below-all before (edge ∷ edges) zero r h = holds (both (lt before edge) (risesFrom edge edges) r .0)
 below-all before (edge ∷ edges) (suc k) r h =
-    lt-trans before edge (getD edges k nan) (holds (both-left (lt before edge) (risesFrom edge edges) r))
-    (below-all edge edges k (both-right (lt before edge) (risesFrom edge edges) r) (le-of-suc-le-suc h))
+    lt-trans before edge (getD edges k nan) (holds (both (lt before edge) (risesFrom edge edges) r .0))
+    (below-all edge edges k (both (lt before edge) (risesFrom edge edges) r .1) (le-of-suc-le-suc h))
 
 pub edges-apart : (edges : List Float) (j k : ℕ) → rises edges ≡ true → j < k → k < length edges → lt (getD edges j nan) (getD edges k nan) ≡ true
 unfolding rises
@@ -176,12 +152,8 @@ module _ (lows highs : List Float) where
 
   one-of : (n k : ℕ) → notQuote (quoteAt lows highs k) ≡ true → (k ≡ n) ⊎ (k < n) → (k < n → someNotQuote lows highs n ≡ true)
       → someNotQuote lows highs n || notQuote (quoteAt lows highs n) ≡ true
-  one-of n k e (inl q) h = ap (λ (j : ℕ). someNotQuote lows highs n || notQuote (quoteAt lows highs j)) (sym q) ∙ ap (λ (b : Bool). someNotQuote lows highs n || b) e ∙ or-true (someNotQuote lows highs n)
-    where
-      or-true : (b : Bool) → b || true ≡ true
-      or-true true = refl
-      or-true false = refl
-  one-of n k e (inr l) h = ap (λ (b : Bool). b || notQuote (quoteAt lows highs n)) (h l)
+  one-of n k e (inl q) h = or-second (someNotQuote lows highs n) (notQuote (quoteAt lows highs n)) (ap (λ (j : ℕ). notQuote (quoteAt lows highs j)) (sym q) ∙ e)
+  one-of n k e (inr l) h = or-first (someNotQuote lows highs n) (notQuote (quoteAt lows highs n)) (h l)
 
   pub quotes-stop : (n k : ℕ) → k < n → notQuote (quoteAt lows highs k) ≡ true → someNotQuote lows highs n ≡ true
   unfolding someNotQuote
@@ -190,7 +162,7 @@ module _ (lows highs : List Float) where
 
   each-of : (n k : ℕ) → someNotQuote lows highs n || notQuote (quoteAt lows highs n) ≡ false → (k ≡ n) ⊎ (k < n)
       → (k < n → notQuote (quoteAt lows highs k) ≡ false) → notQuote (quoteAt lows highs k) ≡ false
-  each-of n k e (inl q) h = rw q (neither-right (someNotQuote lows highs n) (notQuote (quoteAt lows highs n)) e)
+  each-of n k e (inl q) h = rw q (or-false (someNotQuote lows highs n) (notQuote (quoteAt lows highs n)) e .1)
   each-of n k e (inr l) h = h l
 
   -- where none of n is refused, each is a quote
@@ -198,4 +170,4 @@ module _ (lows highs : List Float) where
   unfolding someNotQuote
   each-quote zero k e h = absurd (not-suc-le-zero h)
   each-quote (suc n) k e h =
-      each-of n k e (eq-or-lt-of-le (le-of-suc-le-suc h)) (λ l. each-quote n k (neither-left (someNotQuote lows highs n) (notQuote (quoteAt lows highs n)) e) l)
+      each-of n k e (eq-or-lt-of-le (le-of-suc-le-suc h)) (λ l. each-quote n k (or-false (someNotQuote lows highs n) (notQuote (quoteAt lows highs n)) e .0) l)
