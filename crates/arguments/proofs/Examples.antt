@@ -20,8 +20,8 @@ unfolding bytesOf formatNames formatNumbered alike lowered inCase placeAmong
 formats-hold = refl
 
 -- what is wrong with the first option, by number
-pub faults-hold : map (λ t. faultAt (wordsOf (bytesOf t))) ("--no-rle\0" ∷ "--none\0" ∷ "--width\0" ∷ "--width\08x\0" ∷ "--format=Pal4\0" ∷ "--no-rle=no\0" ∷ "--\0" ∷ "--\0x\0" ∷ "--out=\0" ∷ "--limit=4294967296\0" ∷ "--limit=1k\0" ∷ "--pels=3780,-1\0" ∷ "--pels=3780\0" ∷ [])
-    ≡ 0 ∷ 1 ∷ 2 ∷ 3 ∷ 4 ∷ 8 ∷ 0 ∷ 9 ∷ 2 ∷ 0 ∷ 10 ∷ 0 ∷ 11 ∷ []
+pub faults-hold : map (λ t. faultAt (wordsOf (bytesOf t))) ("--no-rle\0" ∷ "--none\0" ∷ "--width\0" ∷ "--width\08x\0" ∷ "--format=Pal4\0" ∷ "--no-rle=no\0" ∷ "--\0" ∷ "--\0x\0" ∷ "--out=\0" ∷ "--limit=4294967296\0" ∷ "--limit=1k\0" ∷ "--pels=3780,-1\0" ∷ "--pels=3780\0" ∷ "--edges=e\0" ∷ "--highs\0" ∷ "--lows=\0" ∷ [])
+    ≡ 0 ∷ 1 ∷ 2 ∷ 3 ∷ 4 ∷ 8 ∷ 0 ∷ 9 ∷ 2 ∷ 0 ∷ 10 ∷ 0 ∷ 11 ∷ 0 ∷ 2 ∷ 2 ∷ []
 unfolding bytesOf digitOf digitsFrom digitsOf numberOf isNumber isNumber32 isNegative magnitude isSigned32 numbersFrom areNumbers optionNames optionNamed standsAlone carriesValue carried first second isNone formatNames formatNumbered isFormat unless faultOfName faultOf faultAlone faultLast faultAt upTo onto pieces wordsOf itemsOf itemAt alike lowered inCase placeAmong
 faults-hold = refl
 

@@ -49,9 +49,12 @@ optionNames =
     ∷ "--linked-icc"
     ∷ "--out"
     ∷ "--read"
+    ∷ "--edges"
+    ∷ "--lows"
+    ∷ "--highs"
     ∷ [])
 
--- the number of the option that a word names before its =; 26 for any other word
+-- the number of the option that a word names before its =; 29 for any other word
 unfoldable pub optionNamed : List ℕ → ℕ
 optionNamed w = placeAmong optionNames (upTo 61 w)
 
@@ -144,7 +147,7 @@ areMasks list = areNumbers 5 0 list && leb (numberOf (itemAt (itemsOf 44 list) 0
 
 -- of a file's name
 unfoldable pub faultOfName : ℕ → List ℕ → ℕ
-faultOfName option name = cond (leb (numbered "--plane") option && leb option (numbered "--read")) (unless (ltb 0 (length name)) 2) 1
+faultOfName option name = cond (leb (numbered "--plane") option && leb option (numbered "--highs")) (unless (ltb 0 (length name)) 2) 1
 
 -- of an option's value; a limit that is too large and a resolution below 0 are refused with the picture
 unfoldable pub faultOf : ℕ → List ℕ → ℕ
@@ -163,7 +166,7 @@ faultAlone option valued followed = cond valued 8 (cond (eqb option (numbered "-
 
 -- of an option that no word follows
 unfoldable pub faultLast : ℕ → ℕ
-faultLast option = cond (leb option (numbered "--read")) 2 1
+faultLast option = cond (leb option (numbered "--highs")) 2 1
 
 -- what is wrong with the option that words begin with
 unfoldable pub faultAt : List (List ℕ) → ℕ

@@ -85,6 +85,12 @@ pub const OUT: usize = 24;
 
 pub const READ: usize = 25;
 
+pub const EDGES: usize = 26;
+
+pub const LOWS: usize = 27;
+
+pub const HIGHS: usize = 28;
+
 // Why an option is not understood.
 const UNDERSTOOD: usize = 0;
 
@@ -125,7 +131,7 @@ fn option_named(word: &[u8]) -> usize
     let names =
         b"--top-down,--minimal-palette,--no-rle,--no-embed-icc,--more-follows,--sample-palette,--help,-h,--version,--,\
         --format,--width,--height,--stride,--rendering-intent,--bitfields,--calibrated-rgb,--limit,--pels,--plane,\
-        --csv,--palette,--icc,--linked-icc,--out,--read";
+        --csv,--palette,--icc,--linked-icc,--out,--read,--edges,--lows,--highs";
     place_in(names, piece(word, 0, b'='), false)
 }
 
@@ -251,7 +257,7 @@ fn fault_of_name(option: usize, name: &[u8]) -> usize
     if option < PLANE {
         return UNKNOWN_OPTION;
     }
-    if option > READ {
+    if option > HIGHS {
         return UNKNOWN_OPTION;
     }
     unless(name.len() > 0, NO_VALUE)
@@ -305,7 +311,7 @@ fn fault_alone(option: usize, valued: bool, followed: bool) -> usize
 fn fault_last(option: usize) -> usize
     ensures { λ r. ⌜ r ≡ faultLast option ⌝ }
 {
-    if option <= READ {
+    if option <= HIGHS {
         NO_VALUE
     } else {
         UNKNOWN_OPTION

@@ -7,13 +7,13 @@ use Rattle.arguments.specs.Words.{upTo, placeAmong, alike}
 use Rattle.arguments.proofs.options.fault_last.Statement.{statement}
 use Rattle.arguments.proofs.options.fault_last.Tie as tie
 
-known : (option : ℕ) → option ≤ 25 → 2 ≡ faultLast option
+known : (option : ℕ) → option ≤ 28 → 2 ≡ faultLast option
 unfolding faultLast bytesOf optionNames optionNamed placeAmong alike upTo
-known option h = rw (le-leb option 25 h)
+known option h = rw (le-leb option 28 h)
 
-unknown : (option : ℕ) → 25 < option → 1 ≡ faultLast option
+unknown : (option : ℕ) → 28 < option → 1 ≡ faultLast option
 unfolding faultLast bytesOf optionNames optionNamed placeAmong alike upTo
-unknown option h = rw (lt-leb option 25 h)
+unknown option h = rw (lt-leb option 28 h)
 
 returns : tie.Need-returns
 returns c = known (c .before .args .option) (c .if1 .taken)

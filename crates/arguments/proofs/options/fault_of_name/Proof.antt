@@ -17,13 +17,13 @@ module _ (option : ℕ) (name : List ℕ) where
   before h = rw (lt-leb 19 option h)
 
   module _ (h : 19 ≤ option) where
-    behind : 25 < option → 1 ≡ faultOfName option name
+    behind : 28 < option → 1 ≡ faultOfName option name
     unfolding faultOfName bytesOf optionNames optionNamed placeAmong alike upTo
-    behind k = rw (le-leb 19 option h, lt-leb option 25 k)
+    behind k = rw (le-leb 19 option h, lt-leb option 28 k)
 
-    names : option ≤ 25 → unless (ltb 0 (length name)) 2 ≡ faultOfName option name
+    names : option ≤ 28 → unless (ltb 0 (length name)) 2 ≡ faultOfName option name
     unfolding faultOfName bytesOf optionNames optionNamed placeAmong alike upTo
-    names k = rw (le-leb 19 option h, le-leb option 25 k)
+    names k = rw (le-leb 19 option h, le-leb option 28 k)
 
 returns : tie.Need-returns
 returns c = before (c .before .before .args .option) (c .before .before .args .name .now) (c .if1 .taken)

@@ -8,7 +8,7 @@ use Rattle.leaves.specs.Texts.{bytesOf}
 use Rattle.arguments.proofs.options.option_named.Statement.{statement}
 use Rattle.arguments.proofs.options.option_named.Tie as tie
 
-names : itemsOf 44 (bytesOf "--top-down,--minimal-palette,--no-rle,--no-embed-icc,--more-follows,--sample-palette,--help,-h,--version,--,--format,--width,--height,--stride,--rendering-intent,--bitfields,--calibrated-rgb,--limit,--pels,--plane,--csv,--palette,--icc,--linked-icc,--out,--read") ≡ optionNames
+names : itemsOf 44 (bytesOf "--top-down,--minimal-palette,--no-rle,--no-embed-icc,--more-follows,--sample-palette,--help,-h,--version,--,--format,--width,--height,--stride,--rendering-intent,--bitfields,--calibrated-rgb,--limit,--pels,--plane,--csv,--palette,--icc,--linked-icc,--out,--read,--edges,--lows,--highs") ≡ optionNames
 unfolding bytesOf itemsOf pieces onto optionNames
 names = refl
 
