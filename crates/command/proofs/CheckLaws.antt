@@ -1,5 +1,5 @@
 -- What the words say, case by case.
-use mathlib.Core.Bool.{Bool, true, false, not, _||_}
+use mathlib.Core.Bool.{Bool, true, false, _||_}
 use mathlib.Core.List.{List, []}
 use mathlib.Core.Path.{_≡_, sym, ap, subst, _∙_}
 use Prim.Native.Nat.{ℕ, _+_, _≤_, _<_}
@@ -13,7 +13,7 @@ use Rattle.arguments.proofs.OptionLaws.{is-some}
 use Rattle.arguments.proofs.Pieces.{words-end}
 use Rattle.messages.specs.Messages.{Says}
 use Rattle.messages.proofs.MessageLaws.{says-as}
-use Rattle.command.specs.Commands.{firstFound, oneGiven, asksWriting, readFault, writeFault, faultTextAt, jointFault, jointText, helpText, versionText, asksHelp, checkStatus, checkText}
+use Rattle.command.specs.Commands.{oneGiven, readFault, writeFault, faultTextAt, jointFault, jointText, helpText, versionText, asksHelp, checkStatus, checkText}
 use Rattle.command.specs.Runs.{toldAnswer, Checked}
 use Rattle.command.specs.declared.CommandAnswer.{CommandAnswer}
 
@@ -22,12 +22,7 @@ pub one-more : (ws : List (List ℕ)) (from i : ℕ) (a b r : Bool) → a ≡ on
 unfolding oneGiven
 one-more ws from i a b r p q e = rw (add-one i) (e ∙ rw (p, q))
 
--- the tests of a command that reads
-pub read-joined : (ws : List (List ℕ)) (x y z behind writing csv : Bool) (a r : ℕ) → x ≡ oneGiven 0 6 ws → y ≡ oneGiven 10 10 ws → z ≡ oneGiven 21 4 ws → behind ≡ (y || z) → writing ≡ (x || behind)
-    → a ≡ firstFound 0 writing 9 → csv ≡ isGiven 20 ws → r ≡ firstFound a (not csv) 10 → r ≡ readFault ws
-unfolding readFault asksWriting bytesOf optionNames optionNamed placeAmong alike upTo
-read-joined ws x y z behind writing csv a r qx qy qz qb qw qa qc qr = rw (qr, qc, qa, qw, qb, qz, qy, qx)
-
+-- which faults count
 pub joint-reads : (ws : List (List ℕ)) → isGiven 25 ws ≡ true → readFault ws ≡ jointFault ws
 unfolding jointFault bytesOf optionNames optionNamed placeAmong alike upTo
 joint-reads ws e = rw e

@@ -66,6 +66,8 @@ causes =
     ∷ "the stream steps over a row's end, ends too early or uses a delta code"
     ∷ "the limit is over 4294967295"
     ∷ "a resolution is negative"
+    ∷ "the edges are not 1 to 254 numbers, each above the one before"
+    ∷ "a cell's low or high is not a number, or the low is above the high"
     ∷ [])
 
 -- where the size query passes: more bytes than the rows take, unless more may follow

@@ -4,14 +4,17 @@ ghost use Prim.Native.Nat.{_+_, _≤_};
 ghost use lib.ListN.{length, drop};
 ghost use Rattle.arguments.specs.Words.{wordsOf};
 ghost use Rattle.messages.specs.Messages.{Says};
-ghost use Rattle.command.specs.Commands.{firstFound, writeFault, oneGiven, readFault, jointFault, faultTextAt, jointText, helpText, versionText, fileNamed};
+ghost use Rattle.command.specs.Commands.{firstFound, oneGiven, allPrices, cellsFault, writeFault, readFault, jointFault, faultTextAt, jointText, helpText, versionText, fileNamed};
 ghost use Rattle.command.specs.Runs.{Checked, toldAnswer};
 use crate::CommandAnswer;
 use arguments::options::CSV;
+use arguments::options::EDGES;
 use arguments::options::FORMAT;
 use arguments::options::HEIGHT;
 use arguments::options::HELP;
+use arguments::options::HIGHS;
 use arguments::options::LINKED_ICC;
+use arguments::options::LOWS;
 use arguments::options::NO_EMBED_ICC;
 use arguments::options::OUT;
 use arguments::options::PALETTE;
@@ -46,34 +49,9 @@ fn first_found(found: usize, test: bool, number: usize) -> usize
     if test { number } else { 0 }
 }
 
-// What is missing, or does not go together, of a command that writes, by number; 0 where all is well.
-fn write_fault(words: &[u8]) -> usize
-    ensures { λ r. ⌜ r ≡ writeFault (wordsOf (now (words .entry))) ⌝ }
-{
-    let plane = is_given(words, PLANE);
-    let csv = is_given(words, CSV);
-    let size = either(
-        is_given(words, WIDTH),
-        either(is_given(words, HEIGHT), is_given(words, STRIDE)),
-    );
-    let indexed = format_asked(words).is_indexed();
-    let a = first_found(0, !either(plane, csv), 1);
-    let b = first_found(a, both(plane, csv), 2);
-    let c = first_found(b, both(plane, !is_given(words, WIDTH)), 3);
-    let d = first_found(c, both(plane, !is_given(words, HEIGHT)), 4);
-    let e = first_found(d, both(csv, size), 5);
-    let f = first_found(e, both(csv, !indexed), 6);
-    let g = first_found(
-        f,
-        both(is_given(words, PALETTE), is_given(words, SAMPLE_PALETTE)),
-        7,
-    );
-    first_found(g, !is_given(words, OUT), 8)
-}
-
 // Whether one of some options from a number on is given.
 fn one_given(words: &[u8], from: usize, count: usize) -> bool
-    requires { ⌜ from + count ≤ 26 ⌝ }
+    requires { ⌜ from + count ≤ 29 ⌝ }
     ensures { λ r. ⌜ r ≡ oneGiven from count (wordsOf (now (words .entry))) ⌝ }
 {
     let mut given = false;
@@ -85,13 +63,67 @@ fn one_given(words: &[u8], from: usize, count: usize) -> bool
     given
 }
 
+// Whether all three files of prices are given.
+fn all_prices(words: &[u8]) -> bool
+    ensures { λ r. ⌜ r ≡ allPrices (wordsOf (now (words .entry))) ⌝ }
+{
+    both(
+        is_given(words, EDGES),
+        both(is_given(words, LOWS), is_given(words, HIGHS)),
+    )
+}
+
+// What is missing, or does not go together, of a command that writes, by number; 0 where all is well. First what the
+// cells come from.
+fn cells_fault(words: &[u8]) -> usize
+    ensures { λ r. ⌜ r ≡ cellsFault (wordsOf (now (words .entry))) ⌝ }
+{
+    let plane = is_given(words, PLANE);
+    let csv = is_given(words, CSV);
+    let prices = one_given(words, EDGES, 3);
+    let a = first_found(0, !either(plane, either(csv, prices)), 1);
+    let b = first_found(a, both(plane, csv), 2);
+    let c = first_found(b, both(prices, either(plane, csv)), 11);
+    first_found(c, both(prices, !all_prices(words)), 12)
+}
+
+// And then the rest.
+fn write_fault(words: &[u8]) -> usize
+    ensures { λ r. ⌜ r ≡ writeFault (wordsOf (now (words .entry))) ⌝ }
+{
+    let csv = is_given(words, CSV);
+    let prices = one_given(words, EDGES, 3);
+    let raw = either(is_given(words, PLANE), prices);
+    let size = either(
+        is_given(words, WIDTH),
+        either(is_given(words, HEIGHT), is_given(words, STRIDE)),
+    );
+    let format = format_asked(words);
+    let indexed = format.is_indexed();
+    let depth = format.bits_per_pixel();
+    let a = first_found(cells_fault(words), both(raw, !is_given(words, WIDTH)), 3);
+    let b = first_found(a, both(raw, !is_given(words, HEIGHT)), 4);
+    let c = first_found(b, both(csv, size), 5);
+    let d = first_found(c, both(csv, !indexed), 6);
+    let e = first_found(d, both(prices, depth != 8), 13);
+    let f = first_found(
+        e,
+        both(is_given(words, PALETTE), is_given(words, SAMPLE_PALETTE)),
+        7,
+    );
+    first_found(f, !is_given(words, OUT), 8)
+}
+
 // The same of a command that reads.
 fn read_fault(words: &[u8]) -> usize
     ensures { λ r. ⌜ r ≡ readFault (wordsOf (now (words .entry))) ⌝ }
 {
     let writing = either(
         one_given(words, TOP_DOWN, 6),
-        either(one_given(words, FORMAT, 10), one_given(words, PALETTE, 4)),
+        either(
+            one_given(words, FORMAT, 10),
+            either(one_given(words, PALETTE, 4), one_given(words, EDGES, 3)),
+        ),
     );
     let a = first_found(0, writing, 9);
     first_found(a, !is_given(words, CSV), 10)
@@ -137,7 +169,8 @@ fn tell_fault(words: &[u8], at: usize, text: &mut [u8]) -> usize
 fn tell_joint(fault: usize, text: &mut [u8]) -> usize
     ensures { λ r. ⌜ Says (now (text .entry)) 0 (jointText fault) (now (text .exit)) r ⌝ }
 {
-    let lines = b"|--plane FILE or --csv FILE is missing (--help lists the options)\n\
+    let lines =
+        b"|--plane FILE or --csv FILE is missing, or --edges, --lows and --highs (--help lists the options)\n\
         |--plane and --csv are both given\n\
         |--width N is missing\n\
         |--height N is missing\n\
@@ -146,7 +179,10 @@ fn tell_joint(fault: usize, text: &mut [u8]) -> usize
         |--palette and --sample-palette are both given\n\
         |--out FILE is missing\n\
         |--read goes with --csv FILE alone\n\
-        |--csv FILE is missing\n";
+        |--csv FILE is missing\n\
+        |--edges, --lows and --highs stand in place of --plane and --csv\n\
+        |--edges, --lows and --highs go together\n\
+        |--edges, --lows and --highs are for Pal8 alone\n";
     tell_line(text, item(lines, fault, b'|'))
 }
 
@@ -157,17 +193,23 @@ fn tell_help(text: &mut [u8]) -> usize
         text,
         b"Usage: bmp_writer --plane FILE --width N --height N [OPTION ..] --out FILE
        bmp_writer --csv FILE [OPTION ..] --out FILE
+       bmp_writer --edges FILE --lows FILE --highs FILE --width N --height N [OPTION ..] --out FILE
        bmp_writer --read FILE --csv OUT
 
-Encodes a raw plane, or the indices of a sheet, as a BMP file, and prints its format, its bytes and the
-checksum of `cksum`. The exit status is 0, or 1 where the picture is refused, or 2 where the command is not
-understood or a file cannot be read or written; FILE is then as it was.
+Encodes a raw plane, the indices of a sheet or the shades of prices as a BMP file, and prints its format,
+its bytes and the checksum of `cksum`. The exit status is 0, or 1 where the picture is refused, or 2 where
+the command is not understood or a file cannot be read or written; FILE is then as it was.
 
   --plane FILE            rows from the top; - is standard input
   --width N, --height N   cells in a row, and rows
-  --stride N              bytes from one row of the plane to the next [a row's bytes]
+  --stride N              bytes, or prices, from one row to the next [a row's]
   --more-follows          the plane may be longer than stride times height
   --csv FILE              in place of these: rows of indices, as a spreadsheet saves them
+  --edges FILE            in place of --plane: the edges of the shades, 1 to 254 rising prices; this file and
+                          the next two are doubles of 8 bytes, low byte first
+  --lows FILE             the lowest price of each cell, rows from the top
+  --highs FILE            the highest; the cell's index is the count of edges at or below it, or 255 where the
+                          lowest has another count
   --format NAME           Rgba, Rgb24, Bgra, Bgr24, Rgb555, Rgb565, Pal8, Indexed4, Indexed2 or Indexed1 [Pal8]
   --palette FILE          red, green, blue, alpha of each entry, a byte each
   --sample-palette        256 entries from dark violet to yellow
@@ -237,7 +279,7 @@ pub fn check(words: &[u8], text: &mut [u8]) -> CommandAnswer
 pub fn file_name<'a>(words: &'a [u8], file: u32) -> &'a [u8]
     ensures { λ r. ⌜ now r ≡ fileNamed file (wordsOf (now (words .entry))) ⌝ }
 {
-    if file > 6 {
+    if file > 9 {
         return &words[0..0];
     }
     if both(

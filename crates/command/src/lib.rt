@@ -56,7 +56,7 @@ pub extern "C" fn bmp_command_check(words: &[u8], text: &mut [u8]) -> CommandAns
 
 // Puts the name of a file into `name`, as much of it as fits, and answers its bytes; 0 where the command neither reads
 // nor writes it. 0 the plane, 1 the sheet, 2 the palette, 3 the embedded and 4 the linked profile, 5 the file to write,
-// 6 the file to read, whose sheet goes to 1.
+// 6 the file to read, whose sheet goes to 1, 7 the edges, 8 the lows and 9 the highs of prices.
 #[no_mangle]
 pub extern "C" fn bmp_command_file(words: &[u8], file: u32, name: &mut [u8]) -> u64
     ensures { λ r. ⌜ Says (now (name .entry)) 0 (fileNamed file (wordsOf (now (words .entry)))) (now (name .exit)) r ⌝ }

@@ -112,7 +112,9 @@ pub(crate) fn tell_refused(number: u32, text: &mut [u8]) -> usize
         |a byte of header, masks, table, rows or profile lies outside the file\
         |the stream steps over a row's end, ends too early or uses a delta code\
         |the limit is over 4294967295\
-        |a resolution is negative";
+        |a resolution is negative\
+        |the edges are not 1 to 254 numbers, each above the one before\
+        |a cell's low or high is not a number, or the low is above the high";
     let a = in_decimal(number as u64);
     let digits = a.digits;
     let cause = item(causes, number as usize, b'|');

@@ -14,22 +14,22 @@ use Rattle.command.proofs.check.file_name.Statement.{statement}
 use Rattle.command.proofs.check.file_name.Tie as tie
 
 module _ (file : ℕ) (ws : List (List ℕ)) where
-  no-file : 6 < file → [] ≡ fileNamed file ws
+  no-file : 9 < file → [] ≡ fileNamed file ws
   unfolding fileNamed
-  no-file h = rw (lt-ltb 6 file h)
+  no-file h = rw (lt-ltb 9 file h)
 
   skips : (r s a b : Bool) → r ≡ (eqb file 3 && s) → s ≡ (a || b) → a ≡ isGiven 3 ws → b ≡ isGiven 23 ws → r ≡ isSkipped file ws
   unfolding isSkipped bytesOf optionNames optionNamed placeAmong alike upTo
   skips r s a b e f g h = rw (e, f, g, h)
 
-  module _ (h : file ≤ 6) where
+  module _ (h : file ≤ 9) where
     skipped : isSkipped file ws ≡ true → [] ≡ fileNamed file ws
     unfolding fileNamed
-    skipped e = rw (le-ltb 6 file h, e)
+    skipped e = rw (le-ltb 9 file h, e)
 
     named : isSkipped file ws ≡ false → valueOf (19 + file) ws ≡ fileNamed file ws
     unfolding fileNamed bytesOf optionNames optionNamed placeAmong alike upTo
-    named e = rw (le-ltb 6 file h, e)
+    named e = rw (le-ltb 9 file h, e)
 
 sub-result : tie.Need-sub-result
 sub-result c = search needs

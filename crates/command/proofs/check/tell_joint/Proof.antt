@@ -11,7 +11,7 @@ use Rattle.command.specs.Commands.{jointLines, jointText}
 use Rattle.command.proofs.check.tell_joint.Statement.{statement}
 use Rattle.command.proofs.check.tell_joint.Tie as tie
 
-lines : itemsOf 124 (bytesOf "|--plane FILE or --csv FILE is missing (--help lists the options)\n|--plane and --csv are both given\n|--width N is missing\n|--height N is missing\n|--csv takes width, height and stride from the sheet\n|--csv is for Pal8, Indexed4, Indexed2 and Indexed1 alone\n|--palette and --sample-palette are both given\n|--out FILE is missing\n|--read goes with --csv FILE alone\n|--csv FILE is missing\n") ≡ jointLines
+lines : itemsOf 124 (bytesOf "|--plane FILE or --csv FILE is missing, or --edges, --lows and --highs (--help lists the options)\n|--plane and --csv are both given\n|--width N is missing\n|--height N is missing\n|--csv takes width, height and stride from the sheet\n|--csv is for Pal8, Indexed4, Indexed2 and Indexed1 alone\n|--palette and --sample-palette are both given\n|--out FILE is missing\n|--read goes with --csv FILE alone\n|--csv FILE is missing\n|--edges, --lows and --highs stand in place of --plane and --csv\n|--edges, --lows and --highs go together\n|--edges, --lows and --highs are for Pal8 alone\n") ≡ jointLines
 unfolding bytesOf itemsOf pieces onto jointLines
 lines = refl
 
