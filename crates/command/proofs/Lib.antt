@@ -1,3 +1,4 @@
 pub mod CheckLaws
 pub mod RunLaws
 pub mod ReadLaws
+pub mod QuoteLaws

@@ -2,3 +2,4 @@ pub mod Sample
 pub mod Commands
 pub mod Runs
 pub mod SheetReads
+pub mod QuoteRuns

@@ -7,16 +7,19 @@ ghost use Rattle.messages.specs.Messages.{Says};
 ghost use Rattle.reader.specs.Answers.{sizesFor};
 ghost use Rattle.reader.specs.Refusals.{openRows};
 ghost use Rattle.command.specs.Commands.{fileNamed};
+ghost use Rattle.command.specs.QuoteRuns.{QuoteRan};
 ghost use Rattle.command.specs.Runs.{Checked, Ran};
 ghost use Rattle.command.specs.SheetReads.{lentSizes, ReadRan};
 use crate::check::check;
 use crate::check::file_name;
+use crate::quotes::run_quotes;
 use crate::reading::lent_sizes;
 use crate::reading::run_reading;
 use crate::run::run;
 use messages::message::tell;
 
 pub mod check;
+pub mod quotes;
 pub mod reading;
 pub mod run;
 pub mod sample;
@@ -64,8 +67,8 @@ pub extern "C" fn bmp_command_file(words: &[u8], file: u32, name: &mut [u8]) -> 
     tell(name, b"@", file_name(words, file), b"", b"", b"") as u64
 }
 
-// Runs the command on files in memory: `plane` is the plane or the sheet, `cells` memory for the sheet's cells, whose
-// later contents are free.
+// Runs the command on files in memory: `plane` is the plane, the sheet or what `bmp_command_shade` has painted, `cells`
+// memory for the sheet's cells, whose later contents are free.
 #[no_mangle]
 pub extern "C" fn bmp_command<'a>(
     words: &[u8],
@@ -80,6 +83,21 @@ pub extern "C" fn bmp_command<'a>(
     ensures { λ r. ⌜ Ran (wordsOf (now (words .entry))) (now (plane .entry)) (now (palette .entry)) (now (icc .entry)) (now («linked_icc» .entry)) (now (cells .entry)) (now (out .entry)) (now (out .exit)) (now (text .entry)) (now (text .exit)) r ⌝ }
 {
     run(words, plane, palette, icc, linked_icc, cells, out, text)
+}
+
+// Paints the first cells, one for each low, from prices: with status 3 they are the plane that `bmp_command` takes.
+#[no_mangle]
+pub extern "C" fn bmp_command_shade(
+    words: &[u8],
+    edges: &[f64],
+    lows: &[f64],
+    highs: &[f64],
+    cells: &mut [u8],
+    text: &mut [u8],
+) -> CommandAnswer
+    ensures { λ r. ⌜ QuoteRan (wordsOf (now (words .entry))) (now (edges .entry)) (now (lows .entry)) (now (highs .entry)) (now (cells .entry)) (now (cells .exit)) (now (text .entry)) (now (text .exit)) r ⌝ }
+{
+    run_quotes(words, edges, lows, highs, cells, text)
 }
 
 // What must be lent to read a file; all 0 where it is refused.

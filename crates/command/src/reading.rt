@@ -65,7 +65,7 @@ fn tell_read(width: u32, height: u32, depth: u32, bytes: usize, text: &mut [u8])
     )
 }
 
-fn refused(number: u32, bound: usize, text: &mut [u8]) -> CommandAnswer
+pub(crate) fn refused(number: u32, bound: usize, text: &mut [u8]) -> CommandAnswer
     ensures { λ r. ⌜ (r ≡ refusedAnswer number bound (r .text)) × Says (now (text .entry)) 0 (filled (decimal number) (itemAt causes number) [] [] refusedLine) (now (text .exit)) (r .text) ⌝ }
 {
     let n = tell_refused(number, text);
