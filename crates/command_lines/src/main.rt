@@ -1,10 +1,14 @@
 // Runs the command lines that come on standard input, with a 0 for each blank, on the files that they name, and prints
 // status, number and message of each.
+ghost use mathlib.Core.Path.{_≡_};
+ghost use Prim.Native.Nat.{_<_};
+ghost use lib.ListN.{length};
 use arguments::words::end_of;
 use arguments::words::part;
 use command::CommandAnswer;
 use command::check::check;
 use command::check::file_name;
+use command::quotes::run_quotes;
 use command::run::run;
 use libc::STDIN_FILENO;
 use libc::STDOUT_FILENO;
@@ -86,12 +90,102 @@ fn read_plane(words: &[u8], buf: &mut [u8]) -> usize {
     read(words, 1, buf)
 }
 
+fn run_palette(words: &[u8], plane: &[u8]) {
+    let mut palette = io::buffer();
+    let m = read(words, 2, &mut palette);
+    run_profiles(words, plane, part(&palette, 0, m));
+}
+
 fn run_files(words: &[u8]) {
     let mut plane = io::large_buffer();
-    let mut palette = io::buffer();
     let n = read_plane(words, &mut plane);
-    let m = read(words, 2, &mut palette);
-    run_profiles(words, part(&plane, 0, n), part(&palette, 0, m));
+    run_palette(words, part(&plane, 0, n));
+}
+
+// The byte at a place; 0 past the end.
+fn byte_at(bytes: &[u8], at: usize) -> u64
+    ensures { λ r. ⌜ r < 256 ⌝ }
+{
+    if at < bytes.len() {
+        return bytes[at] as u64;
+    }
+    0
+}
+
+// The four bytes at a place, low byte first.
+fn dword(bytes: &[u8], at: usize) -> u64
+    requires { ⌜ at < 4096 ⌝ }
+    ensures { λ r. ⌜ r < 4294967296 ⌝ }
+{
+    let a = byte_at(bytes, at);
+    let b = byte_at(bytes, at + 1);
+    let c = byte_at(bytes, at + 2);
+    let d = byte_at(bytes, at + 3);
+    a + 256 * b + 65536 * c + 16777216 * d
+}
+
+// The double of a pattern, and one NaN for the pattern of any.
+fn double(bits: u64) -> f64 {
+    if bits % 0x8000_0000_0000_0000 / 0x10_0000_0000_0000 != 2047 {
+        return f64::from_bits(bits);
+    }
+    if bits % 0x10_0000_0000_0000 == 0 {
+        return f64::from_bits(bits);
+    }
+    0.0 / 0.0
+}
+
+// Reads the doubles of a file, 64 at most, and answers their count.
+fn read_prices(words: &[u8], file: u32, prices: &mut [f64]) -> usize
+    requires { ⌜ length (now prices) ≡ 64 ⌝ }
+{
+    let mut space = io::buffer();
+    let bytes: &mut [u8] = &mut space;
+    let n = read(words, file, bytes) / 8;
+    let mut k = 0;
+    while k < 64 {
+        let low = dword(bytes, 8 * k);
+        let high = dword(bytes, 8 * k + 4);
+        prices[k] = double(low + 4294967296 * high);
+        k += 1;
+    }
+    n
+}
+
+// The first n prices, or all.
+fn first<'a>(prices: &'a [f64], n: usize) -> &'a [f64] {
+    if n > prices.len() {
+        return prices;
+    }
+    &prices[0..n]
+}
+
+fn run_prices(words: &[u8]) {
+    let mut a = [0.0f64; 64];
+    let mut b = [0.0f64; 64];
+    let mut c = [0.0f64; 64];
+    let edges: &mut [f64] = &mut a;
+    let lows: &mut [f64] = &mut b;
+    let highs: &mut [f64] = &mut c;
+    let n = read_prices(words, 7, edges);
+    let m = read_prices(words, 8, lows);
+    let k = read_prices(words, 9, highs);
+    let mut cells = io::buffer();
+    let mut space = io::buffer();
+    let text: &mut [u8] = &mut space;
+    let answer = run_quotes(
+        words,
+        first(edges, n),
+        first(lows, m),
+        first(highs, k),
+        &mut cells,
+        text,
+    );
+    if answer.status != 3 {
+        show(answer, text);
+        return;
+    }
+    run_palette(words, part(&cells, 0, m));
 }
 
 fn run_words(words: &[u8]) {
@@ -100,6 +194,10 @@ fn run_words(words: &[u8]) {
     let answer = check(words, text);
     if answer.status != 3 {
         show(answer, text);
+        return;
+    }
+    if file_name(words, 7).len() > 0 {
+        run_prices(words);
         return;
     }
     run_files(words);
