@@ -1,4 +1,4 @@
-/* The command bmp_writer without its files: five proved functions that take the command's words and lent memory.
+/* The command bmp_writer without its files: six proved functions that take the command's words and lent memory.
  * command.c is the program over them. Link with libcommand.a (rt staticlib command). The header is for C99 and C++98
  * and later.
  *
@@ -21,8 +21,9 @@ enum bmp_command_status {
     BMP_COMMAND_DONE = 0,
     BMP_COMMAND_REFUSED = 1,
     BMP_COMMAND_NOT_UNDERSTOOD = 2,
-    BMP_COMMAND_WANTS_FILES = 3 /* from bmp_command_check alone: bmp_command is to be called, or, where
-                                   BMP_COMMAND_READ is named, bmp_command_read */
+    BMP_COMMAND_WANTS_FILES = 3 /* from bmp_command_check: bmp_command is to be called, or, where BMP_COMMAND_READ is
+                                   named, bmp_command_read, or, where BMP_COMMAND_EDGES is, bmp_command_shade;
+                                   from bmp_command_shade: bmp_command is to be called */
 };
 
 /* The files that the words name. */
@@ -33,7 +34,10 @@ enum bmp_command_file_number {
     BMP_COMMAND_ICC = 3,
     BMP_COMMAND_LINKED_ICC = 4,
     BMP_COMMAND_OUT = 5,
-    BMP_COMMAND_READ = 6 /* a BMP file; its sheet goes to the file of BMP_COMMAND_SHEET */
+    BMP_COMMAND_READ = 6,  /* a BMP file; its sheet goes to the file of BMP_COMMAND_SHEET */
+    BMP_COMMAND_EDGES = 7, /* doubles, here and below, in place of the plane */
+    BMP_COMMAND_LOWS = 8,
+    BMP_COMMAND_HIGHS = 9
 };
 
 /* 32 bytes. */
@@ -85,13 +89,22 @@ bmp_command_answer bmp_command_check(const uint8_t *words, size_t words_len, uin
  * to read or write. `file` is enum bmp_command_file_number. A profile that will not be written is not named. */
 uint64_t bmp_command_file(const uint8_t *words, size_t words_len, uint32_t file, uint8_t *name, size_t name_len);
 
-/* Runs the command on files in memory. `plane` is the plane, or the sheet; `cells` is scratch memory for the sheet's
- * cells, which are at most one more than its bytes. Where `out` is too short the answer is refusal 15 with the bound,
- * and nothing is written. */
+/* Runs the command on files in memory. `plane` is the plane, the sheet, or what bmp_command_shade has painted; `cells`
+ * is scratch memory for the sheet's cells, which are at most one more than its bytes. Where `out` is too short the
+ * answer is refusal 15 with the bound, and nothing is written. */
 bmp_command_answer bmp_command(const uint8_t *words, size_t words_len, const uint8_t *plane, size_t plane_len,
                                const uint8_t *palette, size_t palette_len, const uint8_t *icc, size_t icc_len,
                                const uint8_t *linked_icc, size_t linked_icc_len, uint8_t *cells, size_t cells_len,
                                uint8_t *out, size_t out_len, uint8_t *text, size_t text_len);
+
+/* Paints the cells from prices, into the first lows_len bytes of `cells`: that is the plane that bmp_command takes then,
+ * and the status is 3. A cell's index is the count of edges at or below its low and its high, or 255 where the counts
+ * differ. Status 2 where there are not as many highs as lows, or fewer bytes in `cells`; refusal 22 where the edges are
+ * not 1 to 254 rising numbers, and 23 where a price is not a number or a low is above its high. With any status but 3
+ * no cell is changed. */
+bmp_command_answer bmp_command_shade(const uint8_t *words, size_t words_len, const double *edges, size_t edges_len,
+                                     const double *lows, size_t lows_len, const double *highs, size_t highs_len,
+                                     uint8_t *cells, size_t cells_len, uint8_t *text, size_t text_len);
 
 /* What must be lent to read a file; all 0 where 17 or 18 refuses it. */
 bmp_command_sizes bmp_command_read_sizes(const uint8_t *file, size_t file_len);

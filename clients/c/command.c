@@ -35,6 +35,7 @@ typedef struct {
 } memory;
 
 static memory words, name, plane, palette, icc, linked_icc, cells, out;
+static memory edges, lows, highs; /* prices, as doubles */
 static memory bmp, head, table; /* a file that is read, and its parts */
 static memory line, text; /* of a message: PREFIX with the text behind it, and the text alone */
 
@@ -120,14 +121,26 @@ static bool read_file(uint32_t number, memory *file) {
     return whole;
 }
 
-/* The words name a plane or a sheet, which are lent in the same place. */
+/* The file's doubles have their low byte first, as those of the machine, x86-64, and memory that is lent is aligned. */
+static bool read_prices(uint32_t number, memory *file) {
+    bool whole = read_file(number, file);
+    if (!whole || file->len % sizeof(double) == 0) return whole;
+    trouble(name_of(number), "is no list of doubles: its bytes are not a multiple of 8");
+    return false;
+}
+
+static const double *prices(const memory *file) { return (const double *)(const void *)file->bytes; }
+
+/* The words name a plane or a sheet, which are lent in the same place, or prices, which are painted there. */
 static bool read_files(void) {
     int standard = 0;
-    for (uint32_t file = BMP_COMMAND_PLANE; file < BMP_COMMAND_OUT; file++) standard += is_standard(name_of(file));
+    for (uint32_t file = BMP_COMMAND_PLANE; file <= BMP_COMMAND_HIGHS; file++)
+        if (file != BMP_COMMAND_OUT) standard += is_standard(name_of(file));
     if (standard > 1) trouble("-", "standard input can be one file only");
     return standard <= 1 && read_file(BMP_COMMAND_PLANE, &plane) && read_file(BMP_COMMAND_SHEET, &plane) &&
-           read_file(BMP_COMMAND_PALETTE, &palette) && read_file(BMP_COMMAND_ICC, &icc) &&
-           read_file(BMP_COMMAND_LINKED_ICC, &linked_icc);
+           read_prices(BMP_COMMAND_EDGES, &edges) && read_prices(BMP_COMMAND_LOWS, &lows) &&
+           read_prices(BMP_COMMAND_HIGHS, &highs) && read_file(BMP_COMMAND_PALETTE, &palette) &&
+           read_file(BMP_COMMAND_ICC, &icc) && read_file(BMP_COMMAND_LINKED_ICC, &linked_icc);
 }
 
 /* ---- writing */
@@ -249,6 +262,12 @@ static bmp_command_answer run(void) {
                        text.len);
 }
 
+static bmp_command_answer shade(void) {
+    return bmp_command_shade(words.bytes, words.len, prices(&edges), edges.len / sizeof(double), prices(&lows),
+                             lows.len / sizeof(double), prices(&highs), highs.len / sizeof(double), plane.bytes,
+                             plane.len, text.bytes, text.len);
+}
+
 /* Writes the file, and prints the line that says so; on standard error where standard output is the file. */
 static int deliver(bmp_command_answer answer, uint32_t file) {
     const char *named = name_of(file);
@@ -287,6 +306,11 @@ int main(int argc, char **argv) {
     if (answer.status != BMP_COMMAND_WANTS_FILES) return say(answer.text, (int)answer.status);
     if (name_of(BMP_COMMAND_READ) != NULL) return read_bmp();
     if (!read_files()) return BMP_COMMAND_NOT_UNDERSTOOD;
+    if (name_of(BMP_COMMAND_EDGES) != NULL) {
+        if (!lend(&plane, lows.len / sizeof(double))) return failed("the cells");
+        answer = shade();
+        if (answer.status != BMP_COMMAND_WANTS_FILES) return say(answer.text, (int)answer.status);
+    }
     /* A last line without its end can have a cell more than bytes. */
     bool has_sheet = name_of(BMP_COMMAND_SHEET) != NULL;
     if (has_sheet && !lend(&cells, (uint64_t)plane.len + 1)) return failed("the sheet's cells");
