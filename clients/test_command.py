@@ -14,6 +14,7 @@ import tempfile
 import threading
 import time
 import unittest
+from array import array
 from collections import namedtuple
 
 HERE = os.path.dirname(os.path.abspath(__file__))
@@ -24,7 +25,7 @@ TIMEOUT = 120
 
 OPTIONS = """--plane --csv --width --height --stride --format --palette --sample-palette --icc --linked-icc --no-embed-icc
 --rendering-intent --bitfields --calibrated-rgb --limit --pels --top-down --minimal-palette --no-rle --more-follows --out
---read --help --version""".split()
+--read --edges --lows --highs --help --version""".split()
 FORMATS = "Rgba Rgb24 Bgra Bgr24 Rgb555 Rgb565 Pal8 Indexed4 Indexed2 Indexed1".split()
 MOST = {"Pal8": 255, "Indexed4": 15, "Indexed2": 3, "Indexed1": 1}
 
@@ -38,6 +39,7 @@ def header_texts():
 
 
 REFUSALS = header_texts()
+MISSING = "--plane FILE or --csv FILE is missing, or --edges, --lows and --highs (--help lists the options)"
 
 # Five cells of index 7, with an empty palette and a minimal table.
 FIVE = bytes.fromhex("424D3E00000000000000" "3A000000" "28000000" "0500000001000000" "01000800" "01000000" "04000000"
@@ -223,7 +225,7 @@ class Case(unittest.TestCase):
 
 class Words(Case):
     def test_nothing_is_asked(self):
-        self.unchanged(2, "--plane FILE or --csv FILE is missing (--help lists the options)")
+        self.unchanged(2, MISSING)
 
     def test_help_has_every_option_and_format(self):
         for word in ("-h", "--help"):
@@ -270,6 +272,10 @@ class Words(Case):
             (["--", "x"], "-- is followed by 'x': the command takes options only"),
             (["--csv", "back.csv", "--read"], "--read has no value (--help lists the options)"),
             (["--read=", "--csv", "back.csv"], "--read has no value (--help lists the options)"),
+            (["--edges"], "--edges has no value (--help lists the options)"),
+            (["--lows="], "--lows has no value (--help lists the options)"),
+            (["--highs", ""], "--highs has no value (--help lists the options)"),
+            (["--edge", "edges"], "--edge is no option (--help lists the options)"),
         ):
             with self.subTest(words):
                 self.unchanged(2, text, *words)
@@ -277,12 +283,23 @@ class Words(Case):
     def test_words_that_are_missing_or_too_many(self):
         plane, size = ["--plane", "plane"], ["--width", "8", "--height", "3"]
         palettes = ["--palette", "palette", "--sample-palette"]
+        prices = ["--edges", "e", "--lows", "l", "--highs", "h"]
         alone = "--csv is for Pal8, Indexed4, Indexed2 and Indexed1 alone"
         size_of_sheet = "--csv takes width, height and stride from the sheet"
         # Each command lacks all that follows in the order as well.
         for words, text in (
-            (palettes, "--plane FILE or --csv FILE is missing (--help lists the options)"),
-            (plane + ["--csv", "sheet"] + palettes, "--plane and --csv are both given"),
+            (palettes, MISSING),
+            (plane + ["--csv", "sheet", "--edges", "e"] + palettes, "--plane and --csv are both given"),
+            *((words, "--edges, --lows and --highs stand in place of --plane and --csv") for words in (
+                plane + ["--edges", "e"], ["--csv", "sheet", "--lows", "l"], plane + size + prices, ["--csv", "sheet"] + prices)),
+            *((words + palettes, "--edges, --lows and --highs go together") for words in (
+                prices[:2], prices[2:4], prices[4:], prices[:4], prices[2:], prices[:2] + prices[4:])),
+            (prices + ["--format", "Rgba"] + palettes, "--width N is missing"),
+            (prices + size[:2] + ["--format", "Rgba"] + palettes, "--height N is missing"),
+            *((prices + size + ["--format", name] + palettes, "--edges, --lows and --highs are for Pal8 alone")
+              for name in FORMATS if name != "Pal8"),
+            (prices + size + palettes, "--palette and --sample-palette are both given"),
+            (prices + size, "--out FILE is missing"),
             (plane + palettes, "--width N is missing"),
             (plane + size[2:] + palettes, "--width N is missing"),
             (plane + size[:2] + palettes, "--height N is missing"),
@@ -338,14 +355,14 @@ class Words(Case):
                 os.remove(self.path("out.bmp"))
 
     def test_the_causes_are_the_headers(self):
-        """Some refusals need planes of gigabytes; their texts are held to the header in the command's definition. It lends
-        no list, so that its 15 speaks of the file alone, and knows no quotes."""
+        """Some refusals need planes of gigabytes; their texts are held to the header in the command's definition. It says
+        itself which list is too short, so that its 15 speaks of the file alone."""
         with open(os.path.join(HERE, "../crates/command/specs/Runs.antt"), encoding="utf-8") as file:
             listed = re.search(r"^causes =\n(.*?)\[\]\)", file.read(), re.MULTILINE | re.DOTALL).group(1)
         causes = dict(enumerate(re.findall(r'"(.*)"', listed)))
-        shared = [number for number in range(1, 22) if number != 15]
+        shared = [number for number in range(1, 24) if number != 15]
         self.assertEqual({number: causes[number] for number in shared}, {number: REFUSALS[number] for number in shared})
-        self.assertEqual(sorted(REFUSALS), list(range(24)) + [255])
+        self.assertEqual((sorted(REFUSALS), len(causes)), (list(range(24)) + [255], 24))
 
     def test_a_shell_sees_a_refusal(self):
         for words, status, printed in (("", 1, b""), ("--palette palette", 0, b"yes\n"), ("--palette none", 2, b"")):
@@ -627,6 +644,201 @@ class Sheets(Case):
         rows = [[(x * y) % 256 for x in range(1200)] for y in range(1000)]
         self.write("sheet.csv", sheet(rows))
         self.assertEqual(self.done("--csv", "sheet.csv", "--sample-palette"), self.expected(rows))
+
+
+class Prices(Case):
+    """bmp_writer --edges FILE --lows FILE --highs FILE --width N --height N."""
+    INF, NAN = float("inf"), float("nan")
+    files = ("--edges", "edges", "--lows", "lows", "--highs", "highs", "--palette", "palette")
+
+    def setUp(self):
+        super().setUp()
+        self.prices([90.0, 100.0, 110.0], [80.0, 90.0, 95.0, 99.0, 100.0, 250.0], [89.5, 95.0, 95.0, 100.0, 109.0, 251.0])
+        self.cells = bytes([0, 1, 1, 255, 2, 3])
+
+    def prices(self, edges, lows, highs):
+        for name, numbers in (("edges", edges), ("lows", lows), ("highs", highs)):
+            with open(self.path(name), "wb") as file:
+                array("d", numbers).tofile(file)
+
+    def painted(self, width, height, *words, **how):
+        return self.done(*self.files, "--width", str(width), "--height", str(height), *words, **how)
+
+    def not_painted(self, status, text, *words, width=3, height=2, **how):
+        size = ("--width", str(width), "--height", str(height))
+        self.unchanged(status, text, *self.files, *size, *words, "--out", "out.bmp", **how)
+
+    def test_a_small_grid(self):
+        expected = stored(self.cells, 3, 2, self.palette)
+        self.assertEqual(self.painted(3, 2, "--no-rle"), expected)
+        self.assertEqual(self.painted(3, 2, "--no-rle", "--format=pal8", "--stride=3"), expected)
+        ran = self.run_program(*self.files, "--width=3", "--height=2", "--no-rle", "--out=-")
+        line = f"bmp_writer: -: Indexed8, {len(expected)} bytes, cksum {cksum(expected)}\n"
+        self.assertEqual(ran, Ran(0, expected, [line.encode()]))
+
+    def test_the_same_file_as_from_the_indices(self):
+        self.write("cells", self.cells)
+        size = ("--width", "3", "--height", "2")
+        for words in ((), ("--top-down",), ("--minimal-palette",), ("--icc", "profile"), ("--pels", "3780,3780"), ("--limit", "1086")):
+            with self.subTest(words):
+                expected = self.done("--plane", "cells", *size, "--palette", "palette", *words, out="plane.bmp")
+                self.assertEqual(self.painted(3, 2, *words), expected)
+        self.write("sheet.csv", sheet([self.cells[:3], self.cells[3:]]))
+        expected = self.done("--csv", "sheet.csv", "--sample-palette")
+        self.assertEqual(self.done(*self.files[:6], *size, "--sample-palette"), expected)
+
+    def test_every_kind_of_price(self):
+        inf, tiny, most = self.INF, 5e-324, 1.7976931348623157e308
+        steps = [float(k) for k in range(254)]
+        for edges, quotes in (
+            ([0.0], [(-0.0, -0.0, 1), (-0.0, 0.0, 1), (0.0, -0.0, 1), (-tiny, -tiny, 0), (-tiny, -0.0, 255), (-inf, inf, 255)]),
+            ([-0.0], [(-0.0, -0.0, 1), (-0.0, 0.0, 1), (0.0, -0.0, 1), (-tiny, -tiny, 0), (-tiny, 0.0, 255), (inf, inf, 1)]),
+            ([-tiny, tiny], [(-0.0, 0.0, 1), (tiny, tiny, 2), (0.0, tiny, 255), (-tiny, 0.0, 1), (-most, -1.0, 0), (1.0, most, 2)]),
+            ([-inf, 0.0, inf], [(-inf, -inf, 1), (-inf, -most, 1), (0.0, most, 2), (inf, inf, 3), (most, inf, 255), (-inf, 0.0, 255)]),
+            ([most, inf], [(-inf, 1.0, 0), (most, most, 1), (inf, inf, 2), (most, inf, 255), (-inf, -inf, 0), (-inf, inf, 255)]),
+            ([inf], [(-inf, most, 0), (inf, inf, 1), (-inf, inf, 255), (0.0, 0.0, 0), (most, inf, 255), (-most, most, 0)]),
+            ([0.1 + 0.2], [(0.3, 0.3, 0), (0.1 + 0.2, 0.1 + 0.2, 1), (0.3, 0.1 + 0.2, 255), (0.3, 0.3, 0), (1.0, 2.0, 1), (-1.0, 0.3, 0)]),
+            (steps, [(253.0, inf, 254), (252.5, 252.5, 253), (252.9, 253.0, 255), (-1.0, -0.5, 0), (0.0, 0.5, 1), (-1.0, 0.0, 255)]),
+        ):
+            with self.subTest(edges=edges[:4]):
+                lows, highs, cells = zip(*quotes)
+                self.prices(edges, lows, highs)
+                self.assertEqual(self.painted(3, 2, "--no-rle"), stored(bytes(cells), 3, 2, self.palette))
+
+    def test_a_grid_at_random(self):
+        dice, (width, height) = random.Random(6), (301, 97)
+        for count in (1, 2, 15, 16, 17, 31, 32, 100, 240, 253, 254):
+            with self.subTest(count):
+                edges = sorted(dice.sample(range(400), count))
+                lows = [dice.randrange(-10, 1650) / 4 for _ in range(width * height)]
+                highs = [low + dice.choice((0, 0, 0.25, 1, 1.5, 30)) for low in lows]
+                self.prices(edges, lows, highs)
+                shades = ([sum(edge <= price for edge in edges) for price in prices] for prices in (lows, highs))
+                cells = bytes(low if low == high else 255 for low, high in zip(*shades))
+                self.assertTrue(self.painted(width, height, "--no-rle") == stored(cells, width, height, self.palette))
+                content = self.painted(width, height)
+                self.assertEqual(header(content)["biCompression"], int(len(content) < 1078 + 304 * height))
+
+    def test_refusals(self):
+        nan, inf = self.NAN, self.INF
+        scale, lows, highs = [90.0, 100.0], [80.0] * 6, [85.0] * 6
+        steps = [float(k) for k in range(255)]
+        for number, *lists in (
+            (22, [], lows, highs),
+            (22, steps, lows, highs),
+            (22, [nan], lows, highs),
+            (22, [90.0, nan], lows, highs),
+            (22, [nan, 90.0], lows, highs),
+            (22, [90.0, 90.0], lows, highs),
+            (22, [100.0, 90.0], lows, highs),
+            (22, [-0.0, 0.0], lows, highs),
+            (22, [0.0, -0.0], lows, highs),
+            (22, [inf, inf], lows, highs),
+            (22, [1.0, 2.0, 3.0, 2.5], lows, highs),
+            (23, scale, [nan] + lows[1:], highs),
+            (23, scale, lows, highs[1:] + [nan]),
+            (23, scale, lows, highs[1:] + [79.0]),
+            (23, scale, [inf] + lows[1:], highs),
+            (23, scale, lows, [-inf] + highs[1:]),
+            (23, scale, [nan] * 6, [nan] * 6),
+            # 22 comes first, and both before what is wrong with the picture.
+            (22, [nan], highs, lows),
+        ):
+            with self.subTest(number=number, lists=lists):
+                self.prices(*lists)
+                text = f"refused, {number}: {REFUSALS[number]}"
+                self.not_painted(1, text)
+                self.not_painted(1, text, "--limit", "4294967296", width=0)
+                self.write("out.bmp", b"an older file")
+                self.not_painted(1, text)
+                os.remove(self.path("out.bmp"))
+        self.prices(scale, lows, highs)
+        for number, words in ((1, ("--width", "0")), (3, ()), (4, ("--palette", "five")), (12, ("--height", "3")),
+                              (13, ("--stride", "2", "--more-follows")), (14, ("--limit", "9", "--no-rle")), (16, ("--limit", "9")),
+                              (20, ("--limit", "4294967296")), (21, ("--pels", "0,-1")),
+                              (11, ("--bitfields", "16,0xF800,0x07E0,0x001F,0"))):
+            with self.subTest(number=number):
+                files = self.files[:6] if number == 3 else self.files
+                text = f"refused, {number}: {REFUSALS[number]}"
+                self.unchanged(1, text, *files, "--width", "3", "--height", "2", *words, "--out", "out.bmp")
+
+    def test_another_count_of_highs_than_of_lows(self):
+        for highs in ([], [1.0] * 5, [1.0] * 7):
+            with self.subTest(len(highs)):
+                # No price is looked at.
+                self.prices([self.NAN], [2.0] * 6, highs)
+                self.not_painted(2, f"highs: {len(highs)} prices, and lows has 6")
+        self.prices([0.0], [], [1.0])
+        self.not_painted(2, "highs: 1 prices, and lows has 0")
+        self.not_painted(2, "-: 2 prices, and lows has 0", "--highs", "-", stdin=bytes(16))
+        self.prices([0.0], [], [])
+        self.not_painted(1, f"refused, 12: {REFUSALS[12]}")
+
+    def test_bytes_that_are_no_doubles(self):
+        for name in ("edges", "lows", "highs"):
+            for size in (1, 7, 9, 12, 47):
+                with self.subTest(name=name, size=size):
+                    self.write("part", bytes(size))
+                    text = "part: is no list of doubles: its bytes are not a multiple of 8"
+                    self.not_painted(2, text, f"--{name}", "part")
+
+    def test_stride_and_more_follows(self):
+        self.prices([90.0], [80.0, 95.0, 99.0, 85.0, 100.0, 99.0], [80.0, 95.0, 99.0, 95.0, 100.0, 99.0])
+        self.assertEqual(self.painted(2, 2, "--stride=3", "--no-rle"), stored(bytes([0, 1, 255, 1]), 2, 2, self.palette))
+        self.assertEqual(self.painted(2, 2, "--more-follows", "--no-rle"), stored(bytes([0, 1, 1, 255]), 2, 2, self.palette))
+        text = "the plane has 6 bytes, more than stride 2 times height 2: --more-follows allows more"
+        os.remove(self.path("out.bmp"))
+        self.not_painted(2, text, width=2)
+
+    def test_the_limit(self):
+        # The plain file has 1078 + 64 bytes.
+        self.prices([90.0], [80.0] * 64, [80.0] * 64)
+        content = self.painted(16, 4)
+        self.assertEqual((header(content)["biCompression"], unpacked(content[1078:])), (1, [bytes(16)] * 4))
+        for most in (len(content), 1141, 1142):
+            with self.subTest(most):
+                self.assertEqual(self.painted(16, 4, f"--limit={most}"), content)
+        os.remove(self.path("out.bmp"))
+        self.not_painted(1, f"refused, 16: {REFUSALS[16]}", f"--limit={len(content) - 1}", width=16, height=4)
+        self.not_painted(1, f"refused, 14: {REFUSALS[14]}", "--limit=1141", "--no-rle", width=16, height=4)
+
+    def test_standard_input(self):
+        expected = self.painted(3, 2)
+        for name in ("edges", "lows", "highs", "palette"):
+            with self.subTest(name):
+                self.assertEqual(self.painted(3, 2, f"--{name}", "-", stdin=self.read(name)), expected)
+        os.remove(self.path("out.bmp"))
+        for names in (("edges", "lows"), ("lows", "highs"), ("edges", "highs"), ("highs", "palette"), ("edges", "icc")):
+            with self.subTest(names):
+                words = [word for name in names for word in (f"--{name}", "-")]
+                self.not_painted(2, "-: standard input can be one file only", *words)
+
+    def test_one_file_may_be_both_lists(self):
+        self.assertEqual(self.painted(3, 2, "--highs", "lows", "--no-rle"), stored(bytes([0, 1, 1, 1, 2, 3]), 3, 2, self.palette))
+
+    def test_files_that_cannot_be_read(self):
+        os.mkdir(self.path("folder"))
+        for option in ("--edges", "--lows", "--highs"):
+            for name, text in (("none", "No such file or directory"), ("folder", "Is a directory")):
+                with self.subTest(option=option, name=name):
+                    self.not_painted(2, f"{name}: {text}", option, name)
+
+    def test_a_large_grid(self):
+        side = 1000
+        row = array("d", [x / 4 for x in range(side)])
+        self.prices([], [], [])
+        self.write("lows", row.tobytes() * side)
+        self.write("highs", row.tobytes() * side)
+        self.write("edges", array("d", range(254)).tobytes())
+        cells = bytes(min(254, x // 4 + 1) for x in range(side)) * side
+        self.assertTrue(self.painted(side, side, "--no-rle") == stored(cells, side, side, self.palette))
+
+    def test_help(self):
+        text = self.run_program("--help").out.decode()
+        usage = "bmp_writer --edges FILE --lows FILE --highs FILE --width N --height N [OPTION ..] --out FILE"
+        self.assertIn(f"\n       {usage}\n", text)
+        for option in ("--edges", "--lows", "--highs"):
+            self.assertRegex(text, rf"\n  {option} FILE  +\S")
 
 
 class Reading(Case):
