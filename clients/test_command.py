@@ -355,13 +355,11 @@ class Words(Case):
                 os.remove(self.path("out.bmp"))
 
     def test_the_causes_are_the_headers(self):
-        """Some refusals need planes of gigabytes; their texts are held to the header in the command's definition. It says
-        itself which list is too short, so that its 15 speaks of the file alone."""
+        """Some refusals need planes of gigabytes; their texts are held to the header in the command's definition."""
         with open(os.path.join(HERE, "../crates/command/specs/Runs.antt"), encoding="utf-8") as file:
             listed = re.search(r"^causes =\n(.*?)\[\]\)", file.read(), re.MULTILINE | re.DOTALL).group(1)
         causes = dict(enumerate(re.findall(r'"(.*)"', listed)))
-        shared = [number for number in range(1, 24) if number != 15]
-        self.assertEqual({number: causes[number] for number in shared}, {number: REFUSALS[number] for number in shared})
+        self.assertEqual({number: causes[number] for number in range(1, 24)}, {number: REFUSALS[number] for number in range(1, 24)})
         self.assertEqual((sorted(REFUSALS), len(causes)), (list(range(24)) + [255], 24))
 
     def test_a_shell_sees_a_refusal(self):

@@ -59,7 +59,7 @@ causes =
     ∷ "the plane is shorter than stride times height"
     ∷ "the stride is below width times the bytes of a pixel"
     ∷ "the file would have more bytes than the limit"
-    ∷ "the buffer is shorter than the file's bound"
+    ∷ "a lent buffer or list is too short"
     ∷ "neither the stream nor the plain file is within the limit"
     ∷ "the head is one that the writer never writes"
     ∷ "a byte of header, masks, table, rows or profile lies outside the file"

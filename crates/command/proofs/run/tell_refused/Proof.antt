@@ -11,7 +11,7 @@ use Rattle.command.proofs.RunLaws.{digits-of, same-line}
 use Rattle.command.proofs.run.tell_refused.Statement.{statement}
 use Rattle.command.proofs.run.tell_refused.Tie as tie
 
-lines : itemsOf 124 (bytesOf "|width or height is 0|width or height is over 2147483647|an indexed format needs a palette|the palette's bytes are not a multiple of 4|more than one of masks, calibrated colour and a profile|the masks' depth is neither 16 nor 32|a mask has a bit above the depth|a mask's ones are not one run|a mask shares a bit with an earlier one|the masks of red, green and blue are all 0|masks are for Rgba, Rgb24, Bgra and Bgr24 alone|the plane is shorter than stride times height|the stride is below width times the bytes of a pixel|the file would have more bytes than the limit|the buffer is shorter than the file's bound|neither the stream nor the plain file is within the limit|the head is one that the writer never writes|a byte of header, masks, table, rows or profile lies outside the file|the stream steps over a row's end, ends too early or uses a delta code|the limit is over 4294967295|a resolution is negative|the edges are not 1 to 254 numbers, each above the one before|a cell's low or high is not a number, or the low is above the high") ≡ causes
+lines : itemsOf 124 (bytesOf "|width or height is 0|width or height is over 2147483647|an indexed format needs a palette|the palette's bytes are not a multiple of 4|more than one of masks, calibrated colour and a profile|the masks' depth is neither 16 nor 32|a mask has a bit above the depth|a mask's ones are not one run|a mask shares a bit with an earlier one|the masks of red, green and blue are all 0|masks are for Rgba, Rgb24, Bgra and Bgr24 alone|the plane is shorter than stride times height|the stride is below width times the bytes of a pixel|the file would have more bytes than the limit|a lent buffer or list is too short|neither the stream nor the plain file is within the limit|the head is one that the writer never writes|a byte of header, masks, table, rows or profile lies outside the file|the stream steps over a row's end, ends too early or uses a delta code|the limit is over 4294967295|a resolution is negative|the edges are not 1 to 254 numbers, each above the one before|a cell's low or high is not a number, or the low is above the high") ≡ causes
 unfolding bytesOf itemsOf pieces onto causes
 lines = refl
 
