@@ -58,4 +58,6 @@ done
 python3 -c "import os; os.write(1, bytes((x - 110) ** 2 * 153 // (121 * (60 + y)) + y // 4 for y in range(200) for x in range(200)))" |
     "$BMP_WRITER_PROGRAM" --plane - --width 200 --height 200 --sample-palette --out grid.bmp
 [ "$(cksum grid.bmp)" = "189915939 38784 grid.bmp" ]
+python3 "$root/clients/python/example_quotes.py"
+[ "$(cksum quotes.bmp)" = "647575826 7696 quotes.bmp" ]
 echo "clients: all tests passed"
