@@ -323,12 +323,12 @@ fn calls(edges: &[f64], lows: &[f64], highs: &[f64])
 
 // Edges an eighth apart, and 4,000 quotes from below the first to above the last.
 fn quotes() {
-    let mut scale = [0.0f64; 254];
-    let mut bids = [0.0f64; 4000];
-    let mut offers = [0.0f64; 4000];
-    let edges: &mut [f64] = &mut scale;
-    let lows: &mut [f64] = &mut bids;
-    let highs: &mut [f64] = &mut offers;
+    let mut rising = [0.0f64; 254];
+    let mut low_prices = [0.0f64; 4000];
+    let mut high_prices = [0.0f64; 4000];
+    let edges: &mut [f64] = &mut rising;
+    let lows: &mut [f64] = &mut low_prices;
+    let highs: &mut [f64] = &mut high_prices;
     prices(edges, 0.0 - 16.0, 0.125);
     prices(lows, 0.0 - 20.0, 0.01);
     prices(highs, 0.0 - 19.97, 0.01);

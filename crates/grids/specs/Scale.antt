@@ -26,6 +26,7 @@ indexOf edges quoted = cond (eqb (shadeOf edges (quoted .low)) (shadeOf edges (q
 unfoldable pub quoteAt : List Float → List Float → ℕ → Quote
 quoteAt lows highs k = record { low = getD lows k nan; high = getD highs k nan }
 
+-- of all cells, one for each low
 unfoldable pub indicesOf : List Float → List Float → List Float → List ℕ
 indicesOf edges lows highs = tab (λ k. indexOf edges (quoteAt lows highs k)) (length lows)
 
@@ -40,11 +41,12 @@ unfoldable pub someNan : List Float → Bool
 someNan [] = false
 someNan (edge ∷ edges) = isNan edge || someNan edges
 
--- "strictly rising": each edge is below the next, the first above `before`
+-- each edge is above the one before it, the first above `before`
 unfoldable pub risesFrom : Float → List Float → Bool
 risesFrom before [] = true
 risesFrom before (edge ∷ edges) = lt before edge && risesFrom edge edges
 
+-- "strictly rising"
 unfoldable pub rises : List Float → Bool
 rises [] = true
 rises (edge ∷ edges) = risesFrom edge edges

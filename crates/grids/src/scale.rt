@@ -7,7 +7,7 @@ ghost use Rattle.leaves.specs.Put.{put};
 ghost use Rattle.grids.specs.Levels.{Levels, Spread};
 ghost use Rattle.grids.specs.Scale.{shadeOf, indexOf, indicesOf, notScale, notQuote, someNotQuote, Shaded};
 
-// A cell: the lowest and the highest price that it may have.
+// Document 02: "a cell is a record with a low and a high price".
 pub struct Quote {
     pub low: f64,
     pub high: f64,
