@@ -10,14 +10,14 @@ use lib.Dec.{eqb, leb}
 use lib.Ieee.{Float}
 use lib.ListN.{length, take}
 use Rattle.leaves.specs.Texts.{bytesOf}
-use Rattle.leaves.proofs.ListLaws.{length-tab}
 use Rattle.leaves.proofs.Puts.{inside-put}
 use Rattle.arguments.specs.Options.{optionNames, optionNamed, valueOf}
 use Rattle.arguments.specs.Words.{upTo, placeAmong, alike, itemAt}
 use Rattle.messages.specs.Messages.{decimal, filled, Says}
 use Rattle.messages.proofs.MessageLaws.{says-as, says-none}
 use Rattle.format.proofs.Modes.{both}
-use Rattle.grids.specs.Scale.{indexOf, quoteAt, indicesOf, Shaded}
+use Rattle.grids.specs.Scale.{indicesOf, Shaded}
+use Rattle.grids.proofs.Placing.{length-indices}
 use Rattle.command.specs.Commands.{checkStatus}
 use Rattle.command.specs.Runs.{causes, refusedLine, toldAnswer, Checked}
 use Rattle.command.specs.SheetReads.{refusedAnswer}
@@ -92,14 +92,10 @@ module _ {ws : List (List ℕ)} {textWas textMid : List ℕ} {r : CommandAnswer}
 -- ---- status 3: the cells, which are lent as the plane then, have each quote's index
 
 module _ (edges lows highs : List Float) (was later : List ℕ) where
-  all-lows : length (indicesOf edges lows highs) ≡ length lows
-  unfolding indicesOf
-  all-lows = length-tab (λ k. indexOf edges (quoteAt lows highs k)) (length lows)
-
   first-cells : length lows ≤ length was → Shaded edges lows highs was later 0 → take (length lows) later ≡ indicesOf edges lows highs
   first-cells h s =
       let cells = indicesOf edges lows highs in
-      ap (λ (k : ℕ). take k later) (sym all-lows) ∙ ap (take (length cells)) (s .plane) ∙ inside-put was 0 cells (omega (arith, all-lows, h))
+      ap (λ (k : ℕ). take k later) (sym (length-indices edges lows highs)) ∙ ap (take (length cells)) (s .plane) ∙ inside-put was 0 cells (omega (arith, length-indices edges lows highs, h))
 
   enough : listsFit (length lows) (length highs) (length was) ≡ true → length lows ≤ length was
   unfolding listsFit
