@@ -7,7 +7,7 @@ use Prim.Native.Nat.{ℕ, zero, suc, _<_}
 use native.Mathlib.Nat.{not-suc-le-zero, le-of-suc-le-suc, eq-or-lt-of-le}
 use lib.ListN.{getD}
 use Rattle.leaves.specs.declared.error.Refusal.{Refusal}
-use Rattle.leaves.specs.declared.error.Refusal.the-variants.{ZeroDimension, DimensionTooLarge, PaletteMissing, PaletteNotQuads, SeveralModes, MaskDepth, MaskAboveDepth, MaskNotOneRun, MaskOverlap, NoColourMask, MaskSource, PlaneTooShort, StrideTooShort, FileTooLarge, BufferTooShort, StreamOverBudget, LimitTooLarge, NegativeResolution}
+use Rattle.leaves.specs.declared.error.Refusal.the-variants.{ZeroDimension, DimensionTooLarge, PaletteMissing, PaletteNotQuads, SeveralModes, MaskDepth, MaskAboveDepth, MaskNotOneRun, MaskOverlap, NoColourMask, MaskSource, PlaneTooShort, StrideTooShort, FileTooLarge, BufferTooShort, StreamOverBudget, LimitTooLarge, NegativeResolution, StartsTooShort}
 use Rattle.leaves.specs.declared.error.Check.{Check}
 use Rattle.leaves.specs.declared.error.Check.the-variants.{Passed, Refused}
 use Rattle.leaves.specs.Lists.{cat}
@@ -15,6 +15,7 @@ use Rattle.leaves.specs.Refusals.{checkNumber, firstOf, orElse}
 
 -- ---- the number determines the check
 
+-- 17 to 19, 22 and 23 are the reader's and the painter's, and no check's here
 byNumber : ℕ → Check
 byNumber n =
     getD (
@@ -40,6 +41,9 @@ byNumber n =
     ∷ Passed
     ∷ Refused LimitTooLarge
     ∷ Refused NegativeResolution
+    ∷ Passed
+    ∷ Passed
+    ∷ Refused StartsTooShort
     ∷ []
     ) n Passed
 
@@ -64,6 +68,7 @@ by-number (Refused BufferTooShort) = refl
 by-number (Refused StreamOverBudget) = refl
 by-number (Refused LimitTooLarge) = refl
 by-number (Refused NegativeResolution) = refl
+by-number (Refused StartsTooShort) = refl
 
 pub check-determined : (a b : Check) → checkNumber a ≡ checkNumber b → a ≡ b
 check-determined a b e = sym (by-number a) ∙ ap byNumber e ∙ by-number b

@@ -1,5 +1,5 @@
--- Document 01's table of refusals, with document 02's numbers of the settings: a number for each cause, one predicate for each row in that row's own words, and the first row that applies.
--- The rows that need the plan (11, 14, 15, 16) are defined where the plan is.
+-- Document 01's table of refusals, with document 02's numbers of the settings and of the row starts: a number for each cause, one predicate for each row in that row's own words, and the first row that applies.
+-- The rows that need the plan (11, 14, 15, 16, 24) are defined where the plan is.
 use mathlib.Core.Bool.{Bool, true, false, not, cond, _&&_, _||_}
 use mathlib.Core.List.{List, [], _∷_}
 use Prim.Native.Nat.{ℕ, _+_, _*_, _%_}
@@ -7,11 +7,11 @@ use lib.Dec.{ltb, eqb}
 use lib.IntN.{ℤ, pos}
 use lib.Signed.{ltZ}
 use Rattle.leaves.specs.declared.error.Refusal.{Refusal}
-use Rattle.leaves.specs.declared.error.Refusal.the-variants.{ZeroDimension, DimensionTooLarge, PaletteMissing, PaletteNotQuads, SeveralModes, MaskDepth, MaskAboveDepth, MaskNotOneRun, MaskOverlap, NoColourMask, MaskSource, PlaneTooShort, StrideTooShort, FileTooLarge, BufferTooShort, StreamOverBudget, LimitTooLarge, NegativeResolution}
+use Rattle.leaves.specs.declared.error.Refusal.the-variants.{ZeroDimension, DimensionTooLarge, PaletteMissing, PaletteNotQuads, SeveralModes, MaskDepth, MaskAboveDepth, MaskNotOneRun, MaskOverlap, NoColourMask, MaskSource, PlaneTooShort, StrideTooShort, FileTooLarge, BufferTooShort, StreamOverBudget, LimitTooLarge, NegativeResolution, StartsTooShort}
 use Rattle.leaves.specs.declared.error.Check.{Check}
 use Rattle.leaves.specs.declared.error.Check.the-variants.{Passed, Refused}
 
--- the table's column "No.", and document 02, A.5: "New numbers: 20 .. 21"
+-- the table's column "No.", and document 02, A.5: "New numbers: 20 .. 21", A.7: "New numbers: 24"
 abbrev pub numberOf : Refusal → ℕ
 numberOf ZeroDimension = 1
 numberOf DimensionTooLarge = 2
@@ -31,6 +31,7 @@ numberOf BufferTooShort = 15
 numberOf StreamOverBudget = 16
 numberOf LimitTooLarge = 20
 numberOf NegativeResolution = 21
+numberOf StartsTooShort = 24
 
 -- a check's answer as a number: 0 where nothing is refused
 abbrev pub checkNumber : Check → ℕ

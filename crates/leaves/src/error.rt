@@ -2,7 +2,7 @@
 ghost use mathlib.Core.Path.{_≡_};
 ghost use Rattle.leaves.specs.Refusals.{numberOf, checkNumber, orElse};
 
-// The rows of document 01's table, in their order, and document 02's of the settings.
+// The rows of document 01's table, in their order, and document 02's of the settings and of the row starts.
 pub enum Refusal {
     ZeroDimension,
     DimensionTooLarge,
@@ -22,6 +22,7 @@ pub enum Refusal {
     StreamOverBudget,
     LimitTooLarge,
     NegativeResolution,
+    StartsTooShort,
 }
 
 impl Refusal {
@@ -48,6 +49,7 @@ impl Refusal {
             Refusal::StreamOverBudget => 16,
             Refusal::LimitTooLarge => 20,
             Refusal::NegativeResolution => 21,
+            Refusal::StartsTooShort => 24,
         }
     }
 }

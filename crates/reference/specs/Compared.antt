@@ -24,7 +24,7 @@ use Rattle.format.specs.Input.{Input}
 use Rattle.format.specs.Readers.{dwordAt}
 use Rattle.format.specs.Refusals.{planRows, streamOverBudget}
 use Rattle.leaves.specs.declared.error.Refusal.{Refusal}
-use Rattle.leaves.specs.declared.error.Refusal.the-variants.{ZeroDimension, DimensionTooLarge, PaletteMissing, PaletteNotQuads, SeveralModes, MaskDepth, MaskAboveDepth, MaskNotOneRun, MaskOverlap, NoColourMask, MaskSource, PlaneTooShort, StrideTooShort, FileTooLarge, BufferTooShort, StreamOverBudget, LimitTooLarge, NegativeResolution}
+use Rattle.leaves.specs.declared.error.Refusal.the-variants.{ZeroDimension, DimensionTooLarge, PaletteMissing, PaletteNotQuads, SeveralModes, MaskDepth, MaskAboveDepth, MaskNotOneRun, MaskOverlap, NoColourMask, MaskSource, PlaneTooShort, StrideTooShort, FileTooLarge, BufferTooShort, StreamOverBudget, LimitTooLarge, NegativeResolution, StartsTooShort}
 use Rattle.reference.specs.Rust.{Error, zeroDimension, requiresPalette, mutuallyExclusive, bitfieldsBpp, maskExceeds, maskNotContiguous, maskOverlaps, noColourMask, bitfieldsSource, planeTruncated, strideBelowRow, pixelArrayOverflows, fileOverflows, overLimit, notAddressable, rleOverLimit, Kind, InvalidData, Unsupported, kindOf, Run, done, fails, panics, _>>=_, Option, some, none}
 use Rattle.reference.specs.Types.{BmpBitfields, EncodeSource, EncodeOptions}
 use Rattle.reference.specs.Plan.{Plan, newPlan, withLimit, Appended, wrote, refused, writeInto, appended, encodeSource}
@@ -106,6 +106,7 @@ rustKind BufferTooShort = none
 rustKind StreamOverBudget = some Unsupported
 rustKind LimitTooLarge = none
 rustKind NegativeResolution = none
+rustKind StartsTooShort = none
 
 -- a refusal has its number and its kind
 pub data Outcome (A : Type 0) : Type 0 where
