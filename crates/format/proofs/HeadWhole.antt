@@ -8,7 +8,7 @@ use lib.Dec.{eqb}
 use lib.ListN.{length, getD}
 use Rattle.leaves.specs.declared.image.BmpPixelFormat.{BmpPixelFormat}
 use Rattle.leaves.specs.Bytes.{le32}
-use Rattle.format.specs.File.{modeIn, entriesOf, limitIn, streamUsed, compressionOf, fileSize, fileOf}
+use Rattle.format.specs.File.{modeIn, entriesOf, limitIn, streamUsed, compressionOf, fileSize, fileOf, headBytes}
 use Rattle.format.specs.Layout.{isMasked, headerSize, maskTail, headRest, headLen, plainCompression, rowsCompression}
 use Rattle.leaves.specs.Formats.{bitsPerPixel, isRgb565}
 use Rattle.format.specs.declared.layout.Mode.{Mode}
@@ -83,19 +83,19 @@ module _ (i : Input) (a : Accepted i) where
   header-inside Profiled = omega (arith, fills Profiled refl)
   header-inside Plain = omega (arith, fills Plain refl)
 
-  -- the head is in the file
-  head-inside : 54 + restBytes + 4 * entriesOf i ≤ length (fileOf (limitIn i) i)
-  unfolding fileSize headLen
-  head-inside = rw (length-file i) (omega arith)
-
-  -- the fields, masks and table that the readers need are in the file
-  pub head-long : headNeeds (fieldsOf (fileOf (limitIn i) i)) ≤ length (fileOf (limitIn i) i)
-  unfolding headNeeds
-  head-long =
+  -- the fields, masks and table that the readers need are in the head
+  pub head-needs : headNeeds (fieldsOf (fileOf (limitIn i) i)) ≤ headBytes i
+  unfolding headNeeds headLen
+  head-needs =
       let count : tableCount (fieldsOf (fileOf (limitIn i) i)) ≡ entriesOf i = count-read i a in
       let size : fieldsOf (fileOf (limitIn i) i) .headerSize ≡ headerSize (modeIn i) (i .source .format) = ap (λ (t : Fields). t .headerSize) (fields-read i a) in
       let code : fieldsOf (fileOf (limitIn i) i) .compression ≡ compressionOf (limitIn i) i = ap (λ (t : Fields). t .compression) (fields-read i a) in
-      rw (count, size, code) (omega (arith, head-inside, header-inside (modeIn i), masks-inside))
+      rw (count, size, code) (omega (arith, header-inside (modeIn i), masks-inside))
+
+  -- and so in the file
+  pub head-long : headNeeds (fieldsOf (fileOf (limitIn i) i)) ≤ length (fileOf (limitIn i) i)
+  unfolding fileSize
+  head-long = omega (arith, head-needs, length-file i)
 
 -- the readers' first fields are in every file
 pub first-there : (i : Input) → 54 ≤ length (fileOf (limitIn i) i)

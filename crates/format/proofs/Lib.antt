@@ -15,6 +15,8 @@ pub mod ImageSize
 pub mod MaskedCells
 pub mod Modes
 pub mod OddFiles
+pub mod OneRowBytes
+pub mod OneRowLaws
 pub mod Opening
 pub mod Passing
 pub mod Pictures
@@ -23,7 +25,9 @@ pub mod PlainCells
 pub mod Readings
 pub mod RefusalExamples
 pub mod RowReading
+pub mod RowStarts
 pub mod SourceRows
+pub mod StartExamples
 pub mod StreamBody
 pub mod StreamReading
 pub mod Unpacking

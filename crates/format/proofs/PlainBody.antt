@@ -209,7 +209,7 @@ module _ (i : Input) (a : Accepted i) (no : streamUsed (limitIn i) i ≡ false) 
       go false e = cell-plain y x rest e l m
 
   -- rows have no stream's compression
-  rows-code : (eqb (compressionOf (limitIn i) i) 1 || eqb (compressionOf (limitIn i) i) 2) ≡ false
+  pub rows-code : (eqb (compressionOf (limitIn i) i) 1 || eqb (compressionOf (limitIn i) i) 2) ≡ false
   unfolding compressionOf rowsCompression
   rows-code = rw no (go (i .options .«has_bitfields»))
     where
@@ -218,10 +218,10 @@ module _ (i : Input) (a : Accepted i) (no : streamUsed (limitIn i) i ≡ false) 
       go true = masked-rows (i .options .bitfields .masks)
       go false = plain-rows (isRgb565 (i .source .format))
 
-  top : topFirst (fieldsIn i) ≡ i .options .«top_down»
+  pub top : topFirst (fieldsIn i) ≡ i .options .«top_down»
   top = top-first (fieldsIn i) (i .options .«top_down») (i .source .height) (a .some-height) (a .tall) refl
 
-  tall : shownHeight (fieldsIn i) ≡ i .source .height
+  pub tall : shownHeight (fieldsIn i) ≡ i .source .height
   tall = height-shown (fieldsIn i) (i .options .«top_down») (i .source .height) (a .some-height) (a .tall) refl
 
   -- every cell, by the stored row that it is in

@@ -38,7 +38,7 @@ allCells d w h plane stride = cat (λ s. cells d (sourceRow plane stride w (rowO
 
 module _ (d w h : ℕ) (plane : List ℕ) (stride : ℕ) (inside : w * 1 ≤ stride) (long : stride * h ≤ length plane) where
   -- every row of the plane is whole
-  whole-row : (s : ℕ) → s < h → length (sourceRow plane stride w (rowOf false h s)) ≡ w
+  pub whole-row : (s : ℕ) → s < h → length (sourceRow plane stride w (rowOf false h s)) ≡ w
   whole-row s l =
       let from : h - 1 - s < h = omega arith in
       length-source plane stride w h (h - 1 - s) (omega arith) long from
@@ -88,14 +88,14 @@ body-read file t d w h colours plane stride rest cell deep broad some tall insid
 -- ---- the sources that are coded
 
 -- what the two sources that a stream codes have in common
-record Coded (f : BmpPixelFormat) : Type 0 where
-  deep : (bitsPerPixel f ≡ 4) ⊎ (bitsPerPixel f ≡ 8)
-  one : bytesPerPixel f ≡ 1
-  step : pixelBytes f ≡ 1
-  kind : (eqb (cond (eqb (bitsPerPixel f) 8) 1 2) 1 || eqb (cond (eqb (bitsPerPixel f) 8) 1 2) 2) ≡ true
-  shown : (byte : ℕ → ℕ) → plainlyShown f byte ≡ index (byte 0 % 2 ^ bitsPerPixel f)
+pub record Coded (f : BmpPixelFormat) : Type 0 where
+  pub deep : (bitsPerPixel f ≡ 4) ⊎ (bitsPerPixel f ≡ 8)
+  pub one : bytesPerPixel f ≡ 1
+  pub step : pixelBytes f ≡ 1
+  pub kind : (eqb (cond (eqb (bitsPerPixel f) 8) 1 2) 1 || eqb (cond (eqb (bitsPerPixel f) 8) 1 2) 2) ≡ true
+  pub shown : (byte : ℕ → ℕ) → plainlyShown f byte ≡ index (byte 0 % 2 ^ bitsPerPixel f)
 
-coded-source : (f : BmpPixelFormat) → coded f ≡ true → Coded f
+pub coded-source : (f : BmpPixelFormat) → coded f ≡ true → Coded f
 unfolding plainlyShown
 coded-source =
     coded-cases Coded (record { deep = inr refl; one = refl; step = refl; kind = refl; shown = λ byte. refl })
@@ -104,17 +104,17 @@ coded-source =
 -- ---- when a stream is used
 
 -- the compression says that there is a stream
-kind-read : (i : Input) → streamUsed (limitIn i) i ≡ true → compressionOf (limitIn i) i ≡ cond (eqb (bitsPerPixel (i .source .format)) 8) 1 2
+pub kind-read : (i : Input) → streamUsed (limitIn i) i ≡ true → compressionOf (limitIn i) i ≡ cond (eqb (bitsPerPixel (i .source .format)) 8) 1 2
 unfolding compressionOf
 kind-read i used = rw used
 
 -- and the depth is the source's
-plain-depth : (i : Input) → i .options .«has_bitfields» ≡ false → depthIn i ≡ bitsPerPixel (i .source .format)
+pub plain-depth : (i : Input) → i .options .«has_bitfields» ≡ false → depthIn i ≡ bitsPerPixel (i .source .format)
 unfolding depthOf
 plain-depth i off = rw off
 
 -- the stream stands at the offset
-stream-at : (i : Input) → streamUsed (limitIn i) i ≡ true
+pub stream-at : (i : Input) → streamUsed (limitIn i) i ≡ true
     → drop (headBytes i) (fileOf (limitIn i) i)
     ≡ stream (bitsPerPixel (i .source .format)) (i .source .width) (i .source .height) (i .plane) (i .source .stride) ++ tailOf i
 unfolding pixels streamOf

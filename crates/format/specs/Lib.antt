@@ -6,6 +6,8 @@ pub mod File
 pub mod Headers
 pub mod Input
 pub mod Layout
+pub mod OneRow
 pub mod Readers
 pub mod Refusals
 pub mod Shown
+pub mod Starts

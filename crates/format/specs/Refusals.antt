@@ -1,4 +1,4 @@
--- Document 01's whole table, of a call, with document 02's rows of the settings. A limit stands where document 01 has 4,294,967,295 (A.5: "The limit
+-- Document 01's whole table, of a call, with document 02's rows of the settings and of the row starts. A limit stands where document 01 has 4,294,967,295 (A.5: "The limit
 -- replaces 4,294,967,295 in 14, 16 and the bound").
 use Prim.Native.Nat.{ℕ, _+_, _-_}
 use mathlib.Core.Bool.{Bool, true, false, not, cond, _&&_, _||_}
@@ -8,7 +8,7 @@ use lib.ListN.{length}
 use Rattle.leaves.specs.declared.image.BmpPixelFormat.{BmpPixelFormat}
 use Rattle.leaves.specs.declared.image.BmpPixelFormat.the-variants as source
 use Rattle.leaves.specs.declared.error.Refusal.{Refusal}
-use Rattle.leaves.specs.declared.error.Refusal.the-variants.{MaskSource, FileTooLarge, BufferTooShort, StreamOverBudget}
+use Rattle.leaves.specs.declared.error.Refusal.the-variants.{MaskSource, FileTooLarge, BufferTooShort, StreamOverBudget, StartsTooShort}
 use Rattle.leaves.specs.declared.error.Check.{Check}
 use Rattle.format.specs.File.{rlePlanned, streamOf, budget, plainSize, boundOf}
 use Rattle.leaves.specs.Formats.{bytesPerPixel, isIndexed, maskSource}
@@ -55,3 +55,13 @@ planRows limit i = callRows i ++ ((fileTooLarge limit i, FileTooLarge) ∷ [])
 -- 1 to 16 with 20 and 21, of a buffer of `room` bytes
 unfoldable pub writeRows : ℕ → Input → ℕ → ℕ → List (Bool × Refusal)
 writeRows limit i room offset = planRows limit i ++ ((bufferTooShort limit i room offset, BufferTooShort) ∷ (streamOverBudget limit i, StreamOverBudget) ∷ [])
+
+-- 24 (document 02, A.7): "list shorter than the height", of a list of so many entries
+abbrev pub startsTooShort : Input → ℕ → Bool
+startsTooShort i entries = ltb entries (i .source .height)
+
+-- the same for the call that fills a list of row starts: 24 "in that call only .., directly after 15"
+unfoldable pub startsRows : ℕ → Input → ℕ → ℕ → ℕ → List (Bool × Refusal)
+startsRows limit i room offset entries =
+    planRows limit i
+    ++ ((bufferTooShort limit i room offset, BufferTooShort) ∷ (startsTooShort i entries, StartsTooShort) ∷ (streamOverBudget limit i, StreamOverBudget) ∷ [])

@@ -12,6 +12,7 @@ pub mod RleBlocks
 pub mod RleBytes
 pub mod Scans
 pub mod ShortFields
+pub mod StartLaws
 pub mod StreamPlaces
 pub mod Streams
 pub mod WindowBlocks

@@ -4,6 +4,7 @@ use mathlib.Core.Bool.{Bool, true, false, cond}
 use mathlib.Core.List.{List, [], _∷_, _++_}
 use Prim.Native.Nat.{ℕ, _+_, _-_}
 use lib.Dec.{ltb, eqb}
+use lib.ListN.{length}
 use Rattle.rows.specs.declared.counting.StreamCount.{StreamCount}
 use Rattle.rows.specs.declared.counting.StreamCount.the-variants.{Under, OverBudget}
 use Rattle.leaves.specs.Lists.{cat}
@@ -21,6 +22,10 @@ streamRow d w h plane stride s = rowCodes d (sourceRow plane stride w (rowOf fal
 -- the stream of a plane of one index byte a pixel
 unfoldable pub stream : ℕ → ℕ → ℕ → List ℕ → ℕ → List ℕ
 stream d w h plane stride = cat (streamRow d w h plane stride) h
+
+-- where the codes of the stored row s begin in it (document 02, A.7: "each stored row's first byte"): behind the rows before
+unfoldable pub streamStart : ℕ → ℕ → ℕ → List ℕ → ℕ → ℕ → ℕ
+streamStart d w h plane stride s = length (cat (streamRow d w h plane stride) s)
 
 -- ---- what a count answers
 

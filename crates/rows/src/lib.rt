@@ -6,5 +6,6 @@ mod indices;
 pub mod masks;
 pub mod pack;
 pub mod rle;
+mod starts;
 mod windows;
 pub mod words;

@@ -1,16 +1,18 @@
 // How a source row becomes a stored row (the Rust's encoder.rs, section on pixel packing). Each packer
 // writes one whole stored row, padding included, whatever the buffer held before.
 ghost use mathlib.Core.Path.{_≡_};
-ghost use Prim.Native.Nat.{_+_, _*_, _≤_};
+ghost use Prim.Native.Nat.{_+_, _-_, _*_, _≤_};
 ghost use lib.ListN.{length};
 ghost use Rattle.leaves.specs.Put.{put};
 ghost use Rattle.leaves.specs.Sizes.{rowStride};
 ghost use Rattle.rows.specs.declared.pack.RowPack.the-variants.{Bgra32, Bgr24, Words16};
+ghost use Rattle.rows.specs.Starts.{noted};
 ghost use Rattle.rows.specs.StoredRows.{storedRow, packBits, packBytes, PackOk, FieldsOk, inMaskMode, storedRows};
 use crate::exchange::exchange24;
 use crate::exchange::exchange32;
 use crate::indices::pack_indices;
 use crate::masks::MaskLayout;
+use crate::starts::note_start;
 use leaves::buffer::put_slice;
 use leaves::buffer::put_zeros;
 use leaves::types::row_stride;
@@ -186,13 +188,17 @@ impl RowPack {
         top_down: bool,
         dst: &mut [u8],
         at: usize,
+        starts: &mut [u64],
+        origin: usize,
     )
         requires { ⌜ PackOk self ⌝ }
         requires { ⌜ width * packBytes self ≤ stride ⌝ }
         requires { ⌜ stride * height ≤ length (now plane) ⌝ }
         requires { ⌜ at + rowStride width (packBits self) * height ≤ length (now dst) ⌝ }
+        requires { ⌜ origin ≤ at ⌝ }
         requires { ⌜ FieldsOk self (now fields) ⌝ }
         ensures { λ _. ⌜ now (dst .exit) ≡ put (now (dst .entry)) at (storedRows self width height «top_down» (now (plane .entry)) stride) ⌝ }
+        ensures { λ _. ⌜ now (starts .exit) ≡ noted (λ s. at - origin + s * rowStride width (packBits self)) (now (starts .entry)) height ⌝ }
     {
         let bytes = width as usize * self.source_bytes();
         let stored = row_stride(width, self.bits_per_pixel());
@@ -200,6 +206,7 @@ impl RowPack {
         let mut o = at;
         let mut y = 0;
         while y < h {
+            note_start(starts, y, o - origin);
             let from = if top_down { y } else { h - 1 - y };
             let start = from * stride;
             let end = start + bytes;
@@ -209,8 +216,8 @@ impl RowPack {
         }
     }
 
-    // Writes all stored rows of a plane. The fields of all samples are made once for them, and in mask mode
-    // only.
+    // Writes all stored rows of a plane, and notes where each begins, as a place in the file, whose first byte is at
+    // `origin`. The fields of all samples are made once for them, and in mask mode only.
     pub fn pack_all(
         self,
         plane: &[u8],
@@ -220,21 +227,47 @@ impl RowPack {
         top_down: bool,
         dst: &mut [u8],
         at: usize,
+        starts: &mut [u64],
+        origin: usize,
     )
         requires { ⌜ PackOk self ⌝ }
         requires { ⌜ width * packBytes self ≤ stride ⌝ }
         requires { ⌜ stride * height ≤ length (now plane) ⌝ }
         requires { ⌜ at + rowStride width (packBits self) * height ≤ length (now dst) ⌝ }
+        requires { ⌜ origin ≤ at ⌝ }
         ensures { λ _. ⌜ now (dst .exit) ≡ put (now (dst .entry)) at (storedRows self width height «top_down» (now (plane .entry)) stride) ⌝ }
+        ensures { λ _. ⌜ now (starts .exit) ≡ noted (λ s. at - origin + s * rowStride width (packBits self)) (now (starts .entry)) height ⌝ }
     {
         if self.in_mask_mode() {
             let mut space = [0u32; 1024];
             let fields: &mut [u32] = &mut space;
             self.put_fields(fields);
-            self.pack_rows(fields, plane, stride, width, height, top_down, dst, at);
+            self.pack_rows(
+                fields,
+                plane,
+                stride,
+                width,
+                height,
+                top_down,
+                dst,
+                at,
+                starts,
+                origin,
+            );
             return;
         }
         let none = [0u32; 0];
-        self.pack_rows(&none, plane, stride, width, height, top_down, dst, at);
+        self.pack_rows(
+            &none,
+            plane,
+            stride,
+            width,
+            height,
+            top_down,
+            dst,
+            at,
+            starts,
+            origin,
+        );
     }
 }

@@ -2,13 +2,14 @@
 ghost use mathlib.Core.Path.{_≡_};
 ghost use mathlib.Core.Bool.{cond};
 ghost use mathlib.Core.List.{[], _∷_, _++_};
-ghost use Prim.Native.Nat.{_+_, _*_, _<_, _≤_, _^_};
+ghost use Prim.Native.Nat.{_+_, _-_, _*_, _<_, _≤_, _^_};
 ghost use lib.ListN.{length, getD, take, drop};
 ghost use Rattle.leaves.specs.declared.encoder.EncodedBmpFormat.the-variants as written;
 ghost use Rattle.leaves.specs.Put.{put};
 ghost use Rattle.rows.specs.Packing.{packedByte, packed};
 ghost use Rattle.rows.specs.RleCodes.{isRle4, depthOf, cells, blockAt, dataBytes, bytes, size, rowCodes};
-ghost use Rattle.rows.specs.Stream.{stream};
+ghost use Rattle.rows.specs.Starts.{noted};
+ghost use Rattle.rows.specs.Stream.{streamStart, stream};
 use crate::blocks::Block;
 use crate::blocks::block_from;
 use crate::blocks::cell;
@@ -17,6 +18,7 @@ use crate::blocks::first_differences;
 use crate::blocks::most_cells;
 use crate::blocks::same_of;
 use crate::indices::pack_bytes;
+use crate::starts::note_start;
 use leaves::buffer::put_slice;
 use leaves::encoder::EncodedBmpFormat;
 use leaves::types::BI_RLE4;
@@ -192,7 +194,8 @@ fn rle_row(row: &[u8], four: bool, last: bool, buf: &mut [u8], at: usize) -> usi
     o + 2
 }
 
-// Writes the stream from `at` on, and returns the place after it.
+// Writes the stream from `at` on, and returns the place after it. Where each row's codes begin is noted, as a place in the
+// file, whose first byte is at `origin`.
 pub fn rle_into(
     rle: Rle,
     plane: &[u8],
@@ -201,14 +204,18 @@ pub fn rle_into(
     height: u32,
     buf: &mut [u8],
     at: usize,
+    starts: &mut [u64],
+    origin: usize,
 ) -> usize
     requires { ⌜ width ≤ stride ⌝ }
     requires { ⌜ stride * height ≤ length (now plane) ⌝ }
     requires { ⌜ at + length (stream (depthOf (isRle4 rle)) width height (now plane) stride) ≤ length (now buf) ⌝ }
+    requires { ⌜ origin ≤ at ⌝ }
     ensures { λ r. ⌜
         (r ≡ at + length (stream (depthOf (isRle4 rle)) width height (now (plane .entry)) stride))
         × (now (buf .exit) ≡ put (now (buf .entry)) at (stream (depthOf (isRle4 rle)) width height (now (plane .entry)) stride))
         ⌝ }
+    ensures { λ _. ⌜ now (starts .exit) ≡ noted (λ s. at - origin + streamStart (depthOf (isRle4 rle)) width height (now (plane .entry)) stride s) (now (starts .entry)) height ⌝ }
 {
     let four = rle.is_rle4();
     let w = width as usize;
@@ -216,6 +223,7 @@ pub fn rle_into(
     let mut o = at;
     let mut y: usize = 0;
     while y < h {
+        note_start(starts, y, o - origin);
         let start = (h - 1 - y) * stride;
         let end = start + w;
         let last = y + 1 == h;
