@@ -9,6 +9,7 @@ use lib.Dec.{eqb}
 use lib.ListN.{length, length-append}
 use Rattle.leaves.specs.declared.encoder.EncodedBmpFormat.{EncodedBmpFormat}
 use Rattle.leaves.specs.declared.encoder.EncodedBmpFormat.the-variants as written
+use Rattle.leaves.specs.declared.error.Check.the-variants.{Passed}
 use Rattle.leaves.specs.declared.image.BmpPixelFormat.{BmpPixelFormat}
 use Rattle.leaves.specs.Formats.{bytesPerPixel, bitsPerPixel}
 use Rattle.leaves.specs.Put.{put}
@@ -19,7 +20,9 @@ use Rattle.rows.specs.declared.rle.Rle.{Rle}
 use Rattle.rows.specs.declared.rle.Rle.the-variants.{Rle8, Rle4}
 use Rattle.rows.specs.RleCodes as codes
 use Rattle.rows.specs.StoredRows.{packBits, packBytes, PackOk, storedRows}
-use Rattle.rows.specs.Stream.{stream}
+use Rattle.rows.specs.Starts.{noted}
+use Rattle.rows.specs.Stream.{stream, streamStart}
+use Rattle.rows.proofs.StartLaws.{noted-ext}
 use Rattle.format.specs.declared.layout.Coding.{Coding}
 use Rattle.format.specs.declared.layout.Coding.the-variants.{Stream, Nothing}
 use Rattle.format.specs.declared.layout.Layout.{Layout}
@@ -27,6 +30,7 @@ use Rattle.format.specs.declared.layout.Mode.the-variants.{Plain}
 use Rattle.format.specs.File.{modeIn, depthIn, packIn, rlePlanned, rawBytes, entriesOf, headBytes, tailOf, streamOf, maxFile, limitIn, budget, streamUsed, storedRowsOf, pixels, tableEntry, colourTable, storedHeight, compressionOf, imageSize, xPelsIn, yPelsIn, headOf, fileSize, fileOf, plainSize, formatOf}
 use Rattle.format.specs.Input.{Input}
 use Rattle.format.specs.Layout.{headerSize, headRest, headLen, rawLen, rowsCompression, rowsFormat, codingAt, isStream, coded, codingOf, layoutOf}
+use Rattle.format.specs.Starts.{rowStart}
 use Rattle.format.proofs.Acceptance.{Checked, rows-long, plan-passed}
 use Rattle.format.proofs.FileSizes.{pack-ok, rows-pixels}
 use Rattle.format.proofs.HeadFields.{length-head}
@@ -34,9 +38,10 @@ use Rattle.format.proofs.HeadTable.{entries-small}
 use Rattle.format.proofs.ImageSize.{compressed-size, stream-compression}
 use Rattle.format.proofs.Modes.{coded-cases, PlannedIn, planned-in, used-in, tail-empty, no-tail}
 use Rattle.format.proofs.PlainBody.{pack-bytes}
+use Rattle.format.proofs.RowStarts.{start-coded, start-stored}
 use Rattle.planner.specs.declared.encoder.Encoded.the-variants as encoded
 use Rattle.planner.specs.declared.plan.Sizes.{Sizes}
-use Rattle.planner.specs.Plans.{sizesBy, layoutIn, sizesOf, Planned, Streamed, firstFields, headBy}
+use Rattle.planner.specs.Plans.{sizesBy, layoutIn, sizesOf, Planned, Streamed, firstFields, headBy, notedFor}
 use Rattle.planner.proofs.HeadLaws.{put-next}
 use Rattle.planner.proofs.LayoutLaws.{coding-planned}
 
@@ -133,6 +138,12 @@ module _ (i : Input) (l : Layout) (rle : Rle) (el : l ≡ layoutIn i) (ec : l .c
   stream-coded =
       ap (λ (d : ℕ). stream d (i .source .width) (i .source .height) (i .plane) (i .source .stride)) (coding-depth (bitsPerPixel (i .source .format)) rle at-depth .0)
 
+  -- and so is where its rows begin
+  pub stream-starts : (s : ℕ) → streamStart (codes.depthOf (codes.isRle4 rle)) (i .source .width) (i .source .height) (i .plane) (i .source .stride) s
+      ≡ streamStart (bitsPerPixel (i .source .format)) (i .source .width) (i .source .height) (i .plane) (i .source .stride) s
+  stream-starts s =
+      ap (λ (d : ℕ). streamStart d (i .source .width) (i .source .height) (i .plane) (i .source .stride) s) (coding-depth (bitsPerPixel (i .source .format)) rle at-depth .0)
+
   -- its rows lie in the plane
   pub stream-inside : i .source .width * bytesPerPixel (i .source .format) ≤ i .source .stride → i .source .width ≤ i .source .stride
   stream-inside h =
@@ -201,6 +212,18 @@ module _ (i : Input) (l : Layout) (sizes : Sizes) (rle : Rle) (len : ℕ) (k : S
       (e2 ∙ ap (put b1 (at + sizes .head)) (stream-coded i l rle (p .layout-is) (k .coded)))
       ∙ ap (put d at) (sym ((λ z. top ++ stream-pixels z ++ tail-empty i stream-plan z) ∙ append-nil (top ++ streamOf i)))
 
+  -- the starts of its rows, in a file that begins at `at`
+  pub stream-noted : (at : ℕ) (was later : List ℕ)
+      → later ≡ noted (λ s. at + sizes .head - at + streamStart (codes.depthOf (codes.isRle4 rle)) (i .source .width) (i .source .height) (i .plane) (i .source .stride) s) was (i .source .height)
+      → later ≡ notedFor Passed i was
+  stream-noted at was later e =
+      let p = k .planned in
+      e
+      ∙ noted-ext _ (rowStart (limitIn i) i) was (i .source .height)
+      (λ s.
+      let head : at + sizes .head - at ≡ headBytes i = omega (arith, sizes-head i sizes (p .sizes-are)) in
+      (λ z. head z + stream-starts i l rle (p .layout-is) (k .coded) s z) ∙ sym (start-coded i (limitIn i) s (k .used)))
+
 -- ---- stored rows
 
 module _ (i : Input) (l : Layout) (sizes : Sizes) (p : Planned i l sizes) where
@@ -263,3 +286,12 @@ module _ (i : Input) (l : Layout) (sizes : Sizes) (p : Planned i l sizes) where
         put-next d b2 b3 (top ++ storedRowsOf i) (tailOf i) at (sizes .head + sizes .raw) (at + sizes .head + sizes .raw) all (omega arith) (omega arith) two
         (e3 ∙ ap (put b2 (at + sizes .head + sizes .raw)) et)
         ∙ ap (put d at) (sym (ap (λ (x : List ℕ). top ++ x ++ tailOf i) (rows-pixels (limitIn i) i u)))
+
+    -- the starts of the rows, in a file that begins at `at`
+    pub rows-noted : (at : ℕ) (was later : List ℕ) → later ≡ noted (λ s. at + sizes .head - at + s * rowStride (i .source .width) (packBits (l .pack))) was (i .source .height)
+        → later ≡ notedFor Passed i was
+    rows-noted at was later e =
+        let head : at + sizes .head - at ≡ headBytes i = omega (arith, sizes-head i sizes (p .sizes-are)) in
+        e
+        ∙ noted-ext _ (rowStart (limitIn i) i) was (i .source .height)
+        (λ s. (λ z. head z + s * rowStride (i .source .width) (packBits (pack-is z))) ∙ sym (start-stored i (subst PackOk pack-is (pack-asked .0)) (limitIn i) s u))

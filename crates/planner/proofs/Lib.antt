@@ -7,4 +7,5 @@ pub mod LayoutLaws
 pub mod Longs
 pub mod PlanLaws
 pub mod Promises
+pub mod StartPromises
 pub mod WriteChoice

@@ -22,7 +22,7 @@ use Rattle.planner.specs.declared.encoder.Encoded.{Encoded}
 use Rattle.planner.specs.declared.encoder.Encoded.the-variants as encoded
 use Rattle.planner.specs.declared.plan.SizeBound.{SizeBound}
 use Rattle.planner.specs.declared.plan.SizeBound.the-variants as sized
-use Rattle.planner.specs.Answers.{encodedNumber, encodedBytes, encodedFormat, bytesFor, laterFor, boundNumber, boundBytes, Written, Sized}
+use Rattle.planner.specs.Answers.{encodedNumber, encodedBytes, encodedFormat, bytesFor, laterFor, boundNumber, boundBytes, WrittenBy, Written, Sized}
 
 -- ---- number, bytes and format determine the answer
 
@@ -53,11 +53,15 @@ encoded-determined r s number bytes format =
     let same = check-determined (encodedCheck r) (encodedCheck s) (sym (encoded-number r) ∙ number ∙ encoded-number s) in
     sym (rebuilds r r) ∙ (λ z. rebuilt (same z) (bytes z) (format z) r) ∙ rebuilds s r
 
--- two answers of which the promise holds are one, and so are the buffers
+-- two answers of which the promise holds, by one check, are one, and so are the buffers
+pub by-determined : (c : Check) (i : Input) (offset : ℕ) (was later other : List ℕ) (r s : Encoded) → WrittenBy c i offset was later r → WrittenBy c i offset was other s
+    → (r ≡ s) × (later ≡ other)
+by-determined c i offset was later other r s p q =
+    (encoded-determined r s (p .number ∙ sym (q .number)) (p .bytes ∙ sym (q .bytes)) (p .format ∙ sym (q .format)), p .buffer ∙ sym (q .buffer))
+
 pub written-determined : (i : Input) (offset : ℕ) (was later other : List ℕ) (r s : Encoded) → Written i offset was later r → Written i offset was other s
     → (r ≡ s) × (later ≡ other)
-written-determined i offset was later other r s p q =
-    (encoded-determined r s (p .number ∙ sym (q .number)) (p .bytes ∙ sym (q .bytes)) (p .format ∙ sym (q .format)), p .buffer ∙ sym (q .buffer))
+written-determined i offset was = by-determined (firstOf (writeRows (limitIn i) i (length was) offset)) i offset was
 
 -- the same of the size query
 boundCheck : SizeBound → Check

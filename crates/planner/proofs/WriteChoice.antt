@@ -26,7 +26,7 @@ use Rattle.format.proofs.Modes.{planned-in, no-tail}
 use Rattle.planner.specs.declared.encoder.Encoded.{Encoded}
 use Rattle.planner.specs.declared.plan.Sizes.{Sizes}
 use Rattle.planner.specs.Answers.{laterFor}
-use Rattle.planner.specs.Plans.{sizesBy, sizesOf, Planned, Streamed, encodedFor, streamCheck}
+use Rattle.planner.specs.Plans.{sizesBy, sizesOf, Planned, Streamed, encodedFor, streamCheck, notedFor}
 use Rattle.planner.proofs.FileWrites.{sizes-head, sizes-raw, sizes-file, sizes-parts, stream-planned, stream-coded}
 use Rattle.planner.proofs.LayoutLaws.{coding-planned}
 
@@ -131,10 +131,13 @@ module _ (i : Input) (l : Layout) (s : Sizes) (p : Planned i l s) where
         let q = over-is (length (streamOf i)) (budget (limitIn i) i) count count-is o in
         rw (is-planned, q, lt-ltb (limitIn i) (plainSize i) (leb-false (plainSize i) (limitIn i) (sym fits-is ∙ f)))
 
--- answer and buffer by that test
+-- answer, buffer and list by that test
 module _ (i : Input) (b : Bool) (e : streamOverBudget (limitIn i) i ≡ b) where
   pub answer-by : (r : Encoded) → r ≡ encodedFor (firstOf ((b, StreamOverBudget) ∷ [])) i → r ≡ encodedFor (streamCheck i) i
   answer-by r q = q ∙ sym (ap (λ (t : Bool). encodedFor (firstOf ((t, StreamOverBudget) ∷ [])) i) e)
 
   pub later-by : (at : ℕ) (d x : List ℕ) → x ≡ laterFor (firstOf ((b, StreamOverBudget) ∷ [])) i at d → x ≡ laterFor (streamCheck i) i at d
   later-by at d x q = q ∙ sym (ap (λ (t : Bool). laterFor (firstOf ((t, StreamOverBudget) ∷ [])) i at d) e)
+
+  pub noted-by : (d x : List ℕ) → x ≡ notedFor (firstOf ((b, StreamOverBudget) ∷ [])) i d → x ≡ notedFor (streamCheck i) i d
+  noted-by d x q = q ∙ sym (ap (λ (t : Bool). notedFor (firstOf ((t, StreamOverBudget) ∷ [])) i d) e)

@@ -11,7 +11,8 @@ use Rattle.leaves.specs.Refusals.{numberOf, checkNumber, firstOf, firstNumber}
 use Rattle.format.specs.Demand.{Demand3}
 use Rattle.format.specs.File.{limitIn, fileSize, fileOf, boundOf, formatOf}
 use Rattle.format.specs.Input.{Input}
-use Rattle.format.specs.Refusals.{planRows, writeRows}
+use Rattle.format.specs.Refusals.{planRows, writeRows, startsRows}
+use Rattle.format.specs.Starts.{startsOf, RowsShown}
 use Rattle.planner.specs.declared.encoder.Encoded.{Encoded}
 use Rattle.planner.specs.declared.encoder.Encoded.the-variants as encoded
 use Rattle.format.specs.declared.layout.Layout.{Layout}
@@ -52,15 +53,32 @@ abbrev pub laterFor : Check → Input → ℕ → List ℕ → List ℕ
 laterFor check.Passed i offset was = put was offset (fileOf (limitIn i) i)
 laterFor (check.Refused why) i offset was = was
 
--- the promise of the writing call, of the answer and of the buffer as it was and as it is later
-pub record Written (i : Input) (offset : ℕ) (was later : List ℕ) (answer : Encoded) : Type 0 where
-  -- the first row of the table that applies, or 0
-  pub number : encodedNumber answer ≡ firstNumber (writeRows (limitIn i) i (length was) offset)
-  pub bytes : encodedBytes answer ≡ bytesFor (firstOf (writeRows (limitIn i) i (length was) offset)) i
-  pub format : encodedFormat answer ≡ formatFor (firstOf (writeRows (limitIn i) i (length was) offset)) i
-  pub buffer : later ≡ laterFor (firstOf (writeRows (limitIn i) i (length was) offset)) i offset was
+-- the promise of a writing call, of the check that decides it, of the answer and of the buffer as it was and as it is later
+pub record WrittenBy (decides : Check) (i : Input) (offset : ℕ) (was later : List ℕ) (answer : Encoded) : Type 0 where
+  pub number : encodedNumber answer ≡ checkNumber decides
+  pub bytes : encodedBytes answer ≡ bytesFor decides i
+  pub format : encodedFormat answer ≡ formatFor decides i
+  pub buffer : later ≡ laterFor decides i offset was
   -- demand 3, of the appended bytes alone
   pub shown : encodedNumber answer ≡ 0 → Demand3 i (take (encodedBytes answer) (drop offset later))
+
+-- of the writing call: the first row of the table that applies decides
+abbrev pub Written : Input → ℕ → List ℕ → List ℕ → Encoded → Type 0
+Written i offset was later answer = WrittenBy (firstOf (writeRows (limitIn i) i (length was) offset)) i offset was later answer
+
+-- ---- the writing call that fills a list of row starts (document 02, A.7: "A second writing call, otherwise like the first")
+
+-- the later list: "List entries past the height keep their values, and so does the whole list on any refusal"
+abbrev pub startsFor : Check → Input → List ℕ → List ℕ
+startsFor check.Passed i was = put was 0 (startsOf (limitIn i) i)
+startsFor (check.Refused why) i was = was
+
+-- its promise: the same by the table that has 24 too, and of the list as it was and as it is later
+pub record WrittenWithStarts (i : Input) (offset : ℕ) (was later starts laterStarts : List ℕ) (answer : Encoded) : Type 0 where
+  pub written : WrittenBy (firstOf (startsRows (limitIn i) i (length was) offset (length starts))) i offset was later answer
+  pub list : laterStarts ≡ startsFor (firstOf (startsRows (limitIn i) i (length was) offset (length starts))) i starts
+  -- each row from its start, of the appended bytes alone
+  pub rows-shown : encodedNumber answer ≡ 0 → RowsShown i (take (encodedBytes answer) (drop offset later)) laterStarts
 
 -- ---- the size query: "the bound or a refusal number"
 

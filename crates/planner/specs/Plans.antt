@@ -1,5 +1,5 @@
 -- What the planner's own functions answer. Their contracts cite these; the promises of the two calls (Answers) do not.
-use Prim.Native.Nat.{ℕ, _+_, _-_, _*_, min, max}
+use Prim.Native.Nat.{ℕ, _+_, _-_, _*_, _≤_, min, max}
 use mathlib.Core.Path.{_≡_}
 use mathlib.Core.Bool.{Bool, true, not, cond, _&&_}
 use mathlib.Core.List.{List, [], _∷_, _++_}
@@ -11,12 +11,13 @@ use Rattle.leaves.specs.declared.encoder.EncodeSource.{EncodeSource}
 use Rattle.leaves.specs.declared.error.Check.{Check}
 use Rattle.leaves.specs.declared.error.Check.the-variants as check
 use Rattle.leaves.specs.declared.error.Refusal.{Refusal}
-use Rattle.leaves.specs.declared.error.Refusal.the-variants.{FileTooLarge, StreamOverBudget}
+use Rattle.leaves.specs.declared.error.Refusal.the-variants.{FileTooLarge, BufferTooShort, StreamOverBudget, StartsTooShort}
 use Rattle.leaves.specs.declared.options.EncodeOptions.{EncodeOptions}
 use Rattle.leaves.specs.Formats.{isRgb565}
 use Rattle.leaves.specs.Lists.{cat}
 use Rattle.leaves.specs.Refusals.{firstOf, firstNumber}
 use Rattle.leaves.specs.Sizes.{clrUsed}
+use Rattle.format.specs.Accepted.{Accepted}
 use Rattle.format.specs.declared.layout.Layout.{Layout}
 use Rattle.format.specs.declared.layout.Mode.{Mode}
 use Rattle.format.specs.declared.layout.Mode.the-variants.{Masked, Calibrated, Profiled, Plain}
@@ -24,8 +25,10 @@ use Rattle.format.specs.File.{rawBytes, headBytes, tailOf, rlePlanned, streamOf
 use Rattle.format.specs.Headers.{fileHeader, infoHeader}
 use Rattle.format.specs.Input.{Input}
 use Rattle.format.specs.Layout.{isStream, maskTail, headRest, headLen, rawLen, wantsRle, layoutOf}
-use Rattle.format.specs.Refusals.{streamOverBudget, checkRows, planRows}
+use Rattle.format.specs.Refusals.{bufferTooShort, streamOverBudget, checkRows, planRows}
+use Rattle.format.specs.Starts.{rowStart}
 use Rattle.rows.specs.declared.rle.Rle.{Rle}
+use Rattle.rows.specs.Starts.{noted}
 use Rattle.format.specs.declared.layout.Coding.the-variants.{Stream}
 use Rattle.planner.specs.declared.encoder.Encoded.{Encoded}
 use Rattle.planner.specs.declared.encoder.Encoded.the-variants as encoded
@@ -33,7 +36,7 @@ use Rattle.planner.specs.declared.heads.FirstFields.{FirstFields}
 use Rattle.planner.specs.declared.plan.Plan.{Plan}
 use Rattle.planner.specs.declared.plan.Plan.the-variants.{Ready, Refused}
 use Rattle.planner.specs.declared.plan.Sizes.{Sizes}
-use Rattle.planner.specs.Answers.{planNumber, planBound, planLayout, planSizes}
+use Rattle.planner.specs.Answers.{laterFor, planNumber, planBound, planLayout, planSizes}
 
 -- ---- the plan
 
@@ -150,3 +153,25 @@ streamCheck i = firstOf ((streamOverBudget (limitIn i) i, StreamOverBudget) ∷ 
 abbrev pub refusalOf : Plan → Encoded
 refusalOf (Ready layout sizes) = encoded.Refused FileTooLarge
 refusalOf (Refused why) = encoded.Refused why
+
+-- ---- both writing calls
+
+-- The table of a call whose list of row starts must have `needed` entries: as many as the height in the call that fills one, and none in the other, which
+-- has no 24 then.
+unfoldable pub listRows : ℕ → Input → ℕ → ℕ → ℕ → ℕ → List (Bool × Refusal)
+listRows limit i room offset entries needed =
+    planRows limit i
+    ++ ((bufferTooShort limit i room offset, BufferTooShort) ∷ (ltb entries needed, StartsTooShort) ∷ (streamOverBudget limit i, StreamOverBudget) ∷ [])
+
+-- the list once the rows are written: as many starts as it has entries for
+abbrev pub notedFor : Check → Input → List ℕ → List ℕ
+notedFor check.Passed i was = noted (rowStart (limitIn i) i) was (i .source .height)
+notedFor (check.Refused why) i was = was
+
+-- what both stand on
+pub record Wrote (decides : Check) (i : Input) (offset : ℕ) (was later starts laterStarts : List ℕ) (answer : Encoded) : Type 0 where
+  pub answers : answer ≡ encodedFor decides i
+  pub buffer : later ≡ laterFor decides i offset was
+  pub list : laterStarts ≡ notedFor decides i starts
+  pub inside : decides ≡ check.Passed → offset ≤ length was
+  pub accepted : decides ≡ check.Passed → Accepted i

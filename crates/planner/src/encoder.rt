@@ -7,11 +7,12 @@ ghost use lib.ListN.{length};
 ghost use mathlib.Core.List.{[]};
 ghost use Rattle.leaves.specs.declared.error.Check.the-variants.{Passed};
 ghost use Rattle.leaves.specs.Put.{put};
+ghost use Rattle.leaves.specs.Refusals.{firstOf};
 ghost use Rattle.format.specs.File.{maxFile, streamUsed, fileOf, tailOf};
 ghost use Rattle.format.specs.Layout.{headRest};
-ghost use Rattle.planner.specs.Answers.{Written, laterFor};
+ghost use Rattle.planner.specs.Answers.{Written, WrittenWithStarts, laterFor};
 ghost use Rattle.planner.specs.Calls.{called, chosen};
-ghost use Rattle.planner.specs.Plans.{Planned, Streamed, restLen, headBy, streamCheck, encodedFor, refusalOf};
+ghost use Rattle.planner.specs.Plans.{Planned, Streamed, restLen, headBy, streamCheck, encodedFor, refusalOf, notedFor, listRows, Wrote};
 use crate::heads::FirstFields;
 use crate::heads::long_bits;
 use crate::heads::put_dwords;
@@ -182,11 +183,13 @@ fn write_stream(
     palette: &[u8],
     buf: &mut [u8],
     at: usize,
+    starts: &mut [u64],
 ) -> Encoded
     requires { ⌜ Streamed (chosen src options (now plane) (now palette) []) layout sizes rle len ⌝ }
     requires { ⌜ at + sizes .head + len ≤ length (now buf) ⌝ }
     ensures { λ r. ⌜ r ≡ encodedFor Passed (chosen src options (now (plane .entry)) (now (palette .entry)) []) ⌝ }
     ensures { λ _. ⌜ now (buf .exit) ≡ put (now (buf .entry)) at (fileOf (options .limit) (chosen src options (now (plane .entry)) (now (palette .entry)) [])) ⌝ }
+    ensures { λ _. ⌜ now (starts .exit) ≡ notedFor Passed (chosen src options (now (plane .entry)) (now (palette .entry)) []) (now (starts .entry)) ⌝ }
 {
     let head = sizes.head;
     let size = head + len;
@@ -212,6 +215,8 @@ fn write_stream(
         src.height,
         buf,
         at + head,
+        starts,
+        at,
     );
     Encoded::File(rle.format(), size)
 }
@@ -227,6 +232,7 @@ fn write_rows(
     profile: &[u8],
     buf: &mut [u8],
     at: usize,
+    starts: &mut [u64],
 ) -> Encoded
     requires { ⌜ Planned (chosen src options (now plane) (now palette) (now profile)) layout sizes ⌝ }
     requires { ⌜ streamUsed (options .limit) (chosen src options (now plane) (now palette) (now profile)) ≡ false ⌝ }
@@ -235,6 +241,7 @@ fn write_rows(
     requires { ⌜ at + sizes .file ≤ length (now buf) ⌝ }
     ensures { λ r. ⌜ r ≡ encodedFor Passed (chosen src options (now (plane .entry)) (now (palette .entry)) (now (profile .entry))) ⌝ }
     ensures { λ _. ⌜ now (buf .exit) ≡ put (now (buf .entry)) at (fileOf (options .limit) (chosen src options (now (plane .entry)) (now (palette .entry)) (now (profile .entry)))) ⌝ }
+    ensures { λ _. ⌜ now (starts .exit) ≡ notedFor Passed (chosen src options (now (plane .entry)) (now (palette .entry)) (now (profile .entry))) (now (starts .entry)) ⌝ }
 {
     let head = sizes.head;
     let raw = sizes.raw as u32;
@@ -263,13 +270,15 @@ fn write_rows(
         options.top_down,
         buf,
         pixels,
+        starts,
+        at,
     );
     put_slice(buf, pixels + sizes.raw, profile);
     Encoded::File(written, sizes.file)
 }
 
 // Writes a planned file into a buffer that has room for it: the stream, counted first within the budget, or
-// the stored rows, or 16.
+// the stored rows, or 16. The start of each row is noted as far as the list goes.
 fn write_into(
     layout: Layout,
     sizes: Sizes,
@@ -280,12 +289,14 @@ fn write_into(
     profile: &[u8],
     buf: &mut [u8],
     at: usize,
+    starts: &mut [u64],
 ) -> Encoded
     requires { ⌜ Planned (chosen src options (now plane) (now palette) (now profile)) layout sizes ⌝ }
     requires { ⌜ now profile ≡ tailOf (chosen src options (now plane) (now palette) (now profile)) ⌝ }
     requires { ⌜ at + sizes .bound ≤ length (now buf) ⌝ }
     ensures { λ r. ⌜ r ≡ encodedFor (streamCheck (chosen src options (now (plane .entry)) (now (palette .entry)) (now (profile .entry)))) (chosen src options (now (plane .entry)) (now (palette .entry)) (now (profile .entry))) ⌝ }
     ensures { λ _. ⌜ now (buf .exit) ≡ laterFor (streamCheck (chosen src options (now (plane .entry)) (now (palette .entry)) (now (profile .entry)))) (chosen src options (now (plane .entry)) (now (palette .entry)) (now (profile .entry))) at (now (buf .entry)) ⌝ }
+    ensures { λ _. ⌜ now (starts .exit) ≡ notedFor (streamCheck (chosen src options (now (plane .entry)) (now (palette .entry)) (now (profile .entry)))) (chosen src options (now (plane .entry)) (now (palette .entry)) (now (profile .entry))) (now (starts .entry)) ⌝ }
 {
     let coding = layout.coding;
     if let Coding::Stream(rle) = coding {
@@ -309,6 +320,7 @@ fn write_into(
                 palette,
                 buf,
                 at,
+                starts,
             );
         }
         if !sizes.file_fits {
@@ -325,6 +337,7 @@ fn write_into(
         profile,
         buf,
         at,
+        starts,
     )
 }
 
@@ -348,8 +361,8 @@ fn too_short(room: usize, offset: usize, bound: usize) -> bool
     room - offset < bound
 }
 
-// Appends the file at the offset of a lent buffer, or changes nothing and says why.
-pub fn encode_into<'a>(
+// What both writing calls do. The call that fills no list lends an empty one, of which no entry is needed.
+fn encode_source<'a>(
     src: EncodeSource,
     options: EncodeOptions,
     plane: &[u8],
@@ -358,8 +371,10 @@ pub fn encode_into<'a>(
     linked_icc: &'a [u8],
     out: &mut [u8],
     offset: usize,
+    starts: &mut [u64],
+    needed: usize,
 ) -> Encoded
-    ensures { λ r. ⌜ Written (called src options (now (plane .entry)) (now (palette .entry)) (now (icc .entry)) (now («linked_icc» .entry))) offset (now (out .entry)) (now (out .exit)) r ⌝ }
+    ensures { λ r. ⌜ Wrote (firstOf (listRows (options .limit) (called src options (now (plane .entry)) (now (palette .entry)) (now (icc .entry)) (now («linked_icc» .entry))) (length (now (out .entry))) offset (length (now (starts .entry))) needed)) (called src options (now (plane .entry)) (now (palette .entry)) (now (icc .entry)) (now («linked_icc» .entry))) offset (now (out .entry)) (now (out .exit)) (now (starts .entry)) (now (starts .exit)) r ⌝ }
 {
     let mode = mode_of(src, options);
     let profile = tail(mode, src.has_linked_icc, icc, linked_icc);
@@ -377,6 +392,9 @@ pub fn encode_into<'a>(
     if too_short(out.len(), offset, sizes.bound) {
         return Encoded::Refused(Refusal::BufferTooShort);
     }
+    if starts.len() < needed {
+        return Encoded::Refused(Refusal::StartsTooShort);
+    }
     write_into(
         layout,
         sizes,
@@ -387,5 +405,64 @@ pub fn encode_into<'a>(
         profile,
         out,
         offset,
+        starts,
+    )
+}
+
+// Appends the file at the offset of a lent buffer, or changes nothing and says why.
+pub fn encode_into<'a>(
+    src: EncodeSource,
+    options: EncodeOptions,
+    plane: &[u8],
+    palette: &[u8],
+    icc: &'a [u8],
+    linked_icc: &'a [u8],
+    out: &mut [u8],
+    offset: usize,
+) -> Encoded
+    ensures { λ r. ⌜ Written (called src options (now (plane .entry)) (now (palette .entry)) (now (icc .entry)) (now («linked_icc» .entry))) offset (now (out .entry)) (now (out .exit)) r ⌝ }
+{
+    let mut none = [0u64; 0];
+    let starts: &mut [u64] = &mut none;
+    encode_source(
+        src,
+        options,
+        plane,
+        palette,
+        icc,
+        linked_icc,
+        out,
+        offset,
+        starts,
+        0,
+    )
+}
+
+// The same, and the list gets the place in the file of each stored row's first byte, in stored order.
+pub fn encode_with_starts<'a>(
+    src: EncodeSource,
+    options: EncodeOptions,
+    plane: &[u8],
+    palette: &[u8],
+    icc: &'a [u8],
+    linked_icc: &'a [u8],
+    out: &mut [u8],
+    offset: usize,
+    starts: &mut [u64],
+) -> Encoded
+    ensures { λ r. ⌜ WrittenWithStarts (called src options (now (plane .entry)) (now (palette .entry)) (now (icc .entry)) (now («linked_icc» .entry))) offset (now (out .entry)) (now (out .exit)) (now (starts .entry)) (now (starts .exit)) r ⌝ }
+{
+    let needed = src.height as usize;
+    encode_source(
+        src,
+        options,
+        plane,
+        palette,
+        icc,
+        linked_icc,
+        out,
+        offset,
+        starts,
+        needed,
     )
 }
