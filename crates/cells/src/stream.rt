@@ -114,7 +114,7 @@ fn marks_end(file: &[u8], at: usize) -> bool
 
 // 19, of a stream.
 pub fn stream_fails(file: &[u8], offset: usize, depth: u16, width: usize, height: usize) -> bool
-    requires { ⌜ offset < 2 ^ 32 ⌝ }
+    requires { ⌜ offset < 2 ^ 63 ⌝ }
     requires { ⌜ depth ≤ 8 ⌝ }
     requires { ⌜ width < 2 ^ 31 ⌝ }
     requires { ⌜ 0 < height ⌝ }

@@ -64,13 +64,13 @@ numbers-count file t o good = go (isCoded (t .compression)) refl
     coded : isCoded (t .compression) ≡ true → length (numbersOf (rowsIn file)) ≡ t .width * shownHeight t * numbersEach t
     coded c =
         let s = stream-filled file t o (shownHeight t) refl c good in
-        let d : leb (t .depth) 8 ≡ true = le-leb (t .depth) 8 (coded-kind t (o .sound) c .1) in
+        let d : leb (t .depth) 8 ≡ true = le-leb (t .depth) 8 (coded-kind t (o .head .sound) c .1) in
         let n = length-cat _ (t .width) (shownHeight t) (λ y l. length-tab _ (t .width)) in
         sym (ap length s) ∙ n ∙ rw d (omega (arith, mul-comm (shownHeight t) (t .width)))
 
     plain : isCoded (t .compression) ≡ false → length (numbersOf (rowsIn file)) ≡ t .width * shownHeight t * numbersEach t
     plain c =
-        let n = length-cat _ (t .width * numbersEach t) (shownHeight t) (λ y l. row-numbers file t _ (way t (plain-kind t (o .sound) c))) in
+        let n = length-cat _ (t .width * numbersEach t) (shownHeight t) (λ y l. row-numbers file t _ (way t (plain-kind t (o .head .sound) c))) in
         sym (ap length (rows-filled file t o c)) ∙ n ∙ sym (mul-assoc (shownHeight t) (t .width) (numbersEach t)) ∙ ap (λ (k : ℕ). k * numbersEach t) (mul-comm (shownHeight t) (t .width))
 
     go : (b : Bool) → isCoded (t .compression) ≡ b → length (numbersOf (rowsIn file)) ≡ t .width * shownHeight t * numbersEach t
@@ -127,7 +127,7 @@ module _ (file head table cells laterHead laterTable laterCells : List ℕ) (r :
       let later : laterCells ≡ put cells 0 (numbersOf (rowsIn file)) = s .cells-filled ∙ ap (put cells 0) same in
       let n : r .width * each * r .height - 0 ≡ length (numbersOf (rowsIn file)) = omega (arith, c) in
       record {
-        some = mul-pos (rw w (o .sound .some-width)) (some-each (r .depth) e);
+        some = mul-pos (rw w (o .head .sound .some-width)) (some-each (r .depth) e);
         count = c;
         fits = f;
         long = ap length later ∙ length-put cells 0 (numbersOf (rowsIn file)) (omega (arith, c, f));

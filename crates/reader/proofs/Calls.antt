@@ -23,7 +23,7 @@ use Rattle.reader.specs.Numbers.{numbersOf, numbersEach, cellCount, head
 use Rattle.reader.specs.Refusals.{writtenPair, isCoded, neverWritten, outsideFile, buffersTooShort, streamFails, openRows, readRows}
 use Rattle.reader.specs.Rows.{plainNumbers, streamNumbers, WrittenKind}
 use Rattle.cells.specs.Streams.{cellsIn}
-use Rattle.reader.proofs.Heads.{Sound}
+use Rattle.reader.proofs.Heads.{Sound, head-parts}
 use Rattle.reader.proofs.Opens.{Opened, or-last, outside-parts, opened, shown-of, newer-shown, stream-shown, rows-shown, stream-numbers, stored-numbers, fails-coded}
 
 -- ---- bytes
@@ -115,7 +115,7 @@ module _ (file : List ℕ) where
 
   -- head and table lie in the file
   pub table-inside : outsideFile file ≡ false → headBytes (fieldsOf file) + tableBytes (fieldsOf file) ≤ length file
-  table-inside outside = ltb-false (length file) (headBytes (fieldsOf file) + tableBytes (fieldsOf file)) (outside-parts file outside .2)
+  table-inside outside = ltb-false (length file) (headBytes (fieldsOf file) + tableBytes (fieldsOf file)) (head-parts (length file) (fieldsOf file) (outside-parts file outside .0) .2)
 
   -- ---- the readings
 
@@ -216,7 +216,7 @@ pub stream-filled : (file : List ℕ) (t : Fields) (o : Opened file t) (height :
     → streamNumbers (t .width) height (cellsIn (decode (t .depth) (t .width) (drop (t .offset) file) (height - 1))) ≡ numbersOf (rowsIn file)
 unfolding rowsIn
 stream-filled file t o height e c good =
-    rw e (sym (stream-numbers file t) ∙ ap (λ (r : _). numbersOf (rowsShown r)) (sym (stream-shown file t o c (fails-coded file t (o .fields) c ∙ good))))
+    rw e (sym (stream-numbers file t) ∙ ap (λ (r : _). numbersOf (rowsShown r)) (sym (stream-shown file t o c (fails-coded file t (o .head .fields) c ∙ good))))
 
 pub rows-filled : (file : List ℕ) (t : Fields) → Opened file t → isCoded (t .compression) ≡ false → plainNumbers file t ≡ numbersOf (rowsIn file)
 unfolding rowsIn
@@ -237,20 +237,20 @@ part-fits n at m file h = omega (arith, length-take n (drop at file))
 -- ---- where the profile lies
 
 -- the numbers that do not apply, where the first that applies is none
+pub none-of : (a b c d : Bool) → 0 ≡ cond {A = ℕ} a 17 (cond b 18 (cond c 15 (cond d 19 0))) → (a ≡ false) × (b ≡ false) × (c ≡ false) × (d ≡ false)
+none-of true b c d e = absurd (suc-ne-zero 16 (sym e))
+none-of false true c d e = absurd (suc-ne-zero 17 (sym e))
+none-of false false true d e = absurd (suc-ne-zero 14 (sym e))
+none-of false false false true e = absurd (suc-ne-zero 18 (sym e))
+none-of false false false false e = (refl, refl, refl, refl)
+
 pub rows-pass : (file : List ℕ) (head table cells : ℕ) → 0 ≡ firstApplying (readRows file head table cells)
     → (neverWritten file ≡ false) × (outsideFile file ≡ false) × (buffersTooShort (fieldsOf file) head table cells ≡ false) × (streamFails file ≡ false)
 unfolding readRows
-rows-pass file head table cells e = go (neverWritten file) (outsideFile file) (buffersTooShort (fieldsOf file) head table cells) (streamFails file) e
-  where
-    go : (a b c d : Bool) → 0 ≡ cond {A = ℕ} a 17 (cond b 18 (cond c 15 (cond d 19 0))) → (a ≡ false) × (b ≡ false) × (c ≡ false) × (d ≡ false)
-    go true b c d e = absurd (suc-ne-zero 16 (sym e))
-    go false true c d e = absurd (suc-ne-zero 17 (sym e))
-    go false false true d e = absurd (suc-ne-zero 14 (sym e))
-    go false false false true e = absurd (suc-ne-zero 18 (sym e))
-    go false false false false e = (refl, refl, refl, refl)
+rows-pass file head table cells e = none-of (neverWritten file) (outsideFile file) (buffersTooShort (fieldsOf file) head table cells) (streamFails file) e
 
 profile-there : (file : List ℕ) → outsideFile file ≡ false → profileAt file + profileBytes file ≤ length file
-profile-there file e = ltb-false (length file) (profileAt file + profileBytes file) (outside-parts file e .4)
+profile-there file e = ltb-false (length file) (profileAt file + profileBytes file) (outside-parts file e .2)
 
 pub profile-inside : (file head table cells laterHead laterTable laterCells : List ℕ) (r : Reading) → Read file head table cells laterHead laterTable laterCells r
     → r .«profile_at» + r .«profile_bytes» ≤ length file

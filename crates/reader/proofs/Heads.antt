@@ -6,7 +6,7 @@ use mathlib.Core.List.{List}
 use Prim.Native.Nat.{ℕ, zero, _+_, _-_, _*_, _^_, _≤_, _<_}
 use native.Mathlib.Nat.{mul-le-mul}
 use native.Mathlib.Omega.{arith}
-use borrow.Author.Tests.{ltb-false, lt-ltb, le-leb, lt-leb, leb-true, leb-false, eqb-true, eqb-false, not-false}
+use borrow.Author.Tests.{ltb-false, le-leb, lt-leb, leb-true, leb-false, eqb-true, eqb-false, not-false}
 use lib.Dec.{ltb, leb, eqb}
 use lib.ListN.{length, drop}
 use lib.Pow.{pow-mono}
@@ -17,8 +17,8 @@ use Rattle.format.specs.Readers.{Fields, fieldsOf, wordAt, topFirst, shownHeigh
 use Rattle.format.proofs.Passing.{or-false, and-false}
 use Rattle.format.proofs.PlainCells.{length-row}
 use Rattle.cells.proofs.CellLaws.{or-true, table-cases}
-use Rattle.reader.specs.Numbers.{profileBytes, profileAt}
-use Rattle.reader.specs.Refusals.{strangeMark, strangeHeader, noWidth, noHeight, strangeDepth, strangeCompression, strangePair, negativeStream, manyColours, strangeSizes, strangeKind, writtenPair, isCoded, masksOf, masksEnd, refusedMasks, strangeMasks, neverWritten, outsideFile, openRows}
+use Rattle.reader.specs.Numbers.{headBytes, profileBytes, profileAt}
+use Rattle.reader.specs.Refusals.{strangeMark, strangeHeader, noWidth, noHeight, strangeDepth, strangeCompression, strangePair, negativeStream, manyColours, strangeSizes, strangeKind, writtenPair, isCoded, masksOf, masksEnd, refusedMasks, strangeMasks, neverWritten, headerOutside, masksOutside, tableOutside, headOutside, outsideFile, openRows}
 
 -- ---- tests
 
@@ -204,6 +204,21 @@ masks-checked file t number e m h q =
     let n = q ∙ behind-six (t .depth) (masksOf file (t .compression)) (mask-depths (t .compression) (t .depth) (k .pair) m) in
     rw (m, le-leb (masksEnd (t .compression)) (length file) h) (ap (λ (z : ℕ). not (eqb z 0)) n)
 
+-- ---- 18's parts of the head
+
+pub head-computed : (n : ℕ) (t : Fields) (table end : ℕ) (masks : Bool) → table ≡ tableCount t → end ≡ masksEnd (t .compression) → masks ≡ (eqb (t .compression) 3 || eqb (t .compression) 6)
+    → (ltb n 54 || ltb n (14 + t .headerSize) || (masks && ltb n end) || ltb n (14 + t .headerSize + 4 * table)) ≡ headOutside n t
+head-computed n t table end masks a b c = rw (a, b, c)
+
+pub head-parts : (n : ℕ) (t : Fields) → headOutside n t ≡ false → (headerOutside n t ≡ false) × (masksOutside n t ≡ false) × (tableOutside n t ≡ false)
+head-parts n t outside =
+    let p = or-false (headerOutside n t || masksOutside n t) (tableOutside n t) outside in
+    let q = or-false (headerOutside n t) (masksOutside n t) (p .0) in
+    (q .0, q .1, p .1)
+
+pub first-inside : (n : ℕ) (t : Fields) → headOutside n t ≡ false → 54 ≤ n
+first-inside n t outside = ltb-false n 54 (or-false (ltb n 54) (ltb n (headBytes t)) (head-parts n t outside .0) .0)
+
 -- 17 whole
 module _ (file : List ℕ) (t : Fields) (e : t ≡ fieldsOf file) where
   pub sizes-refused : (mark : ℕ) (r : Bool) → mark ≡ wordAt file 0 → r ≡ strangeSizes (length file) mark t → r ≡ true → true ≡ neverWritten file
@@ -229,17 +244,17 @@ module _ (file : List ℕ) (t : Fields) (e : t ≡ fieldsOf file) where
       rw (← e, z, y) q3
 
   -- 18 whole
-  pub head-cut : length file < 54 → true ≡ outsideFile file
+  pub head-cut : (r : Bool) → r ≡ headOutside (length file) t → r ≡ true → true ≡ outsideFile file
   unfolding outsideFile
-  head-cut h = rw (lt-ltb (length file) 54 h)
+  head-cut r q f = let z : headOutside (length file) t ≡ true = sym q ∙ f in rw (← e, z)
 
-  pub outside-computed : (table height stride at bytes end : ℕ) (masks coded : Bool) → table ≡ tableCount t → height ≡ shownHeight t → stride ≡ rowStride (t .width) (t .depth)
-      → at ≡ profileAt file → bytes ≡ profileBytes file → end ≡ masksEnd (t .compression) → masks ≡ (eqb (t .compression) 3 || eqb (t .compression) 6) → coded ≡ isCoded (t .compression)
-      → (ltb (length file) 54 || ltb (length file) (14 + t .headerSize) || (masks && ltb (length file) end) || ltb (length file) (14 + t .headerSize + 4 * table)
-      || (not coded && ltb (length file) (t .offset + height * stride)) || ltb (length file) (at + bytes))
-      ≡ outsideFile file
+  pub outside-computed : (r coded : Bool) (height stride at bytes : ℕ) → r ≡ headOutside (length file) t → r ≡ false → coded ≡ isCoded (t .compression) → height ≡ shownHeight t
+      → stride ≡ rowStride (t .width) (t .depth) → at ≡ profileAt file → bytes ≡ profileBytes file
+      → ((not coded && ltb (length file) (t .offset + height * stride)) || ltb (length file) (at + bytes)) ≡ outsideFile file
   unfolding outsideFile
-  outside-computed table height stride at bytes end masks coded a b c d f g h i = rw (← e, a, b, c, d, f, g, h, i, length-row (t .depth) (t .width))
+  outside-computed r coded height stride at bytes q f a b c d g =
+      let z : headOutside (length file) t ≡ false = sym q ∙ f in
+      rw (← e, z, a, b, c, d, g, length-row (t .depth) (t .width))
 
 -- the number
 pub number-never : (file : List ℕ) (r : Bool) → r ≡ neverWritten file → r ≡ true → 17 ≡ firstApplying (openRows file)

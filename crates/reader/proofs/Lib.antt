@@ -1,10 +1,12 @@
 pub mod Calls
 pub mod Examples
 pub mod Heads
+pub mod OneRow
 pub mod Opens
 pub mod PlainRows
 pub mod Promises
 pub mod ReadBack
+pub mod RowReadBack
 pub mod Stops
 pub mod StreamRows
 pub mod Written

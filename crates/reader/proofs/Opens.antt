@@ -11,58 +11,69 @@ use lib.ListN.{length, getD, drop}
 use Rattle.leaves.specs.Lists.{tab, cat}
 use Rattle.leaves.proofs.ListLaws.{cat-ext}
 use Rattle.format.specs.Decode.{Decoded, filled, refused, decode}
+use Rattle.format.specs.OneRow.{rowBody, rowByFields, readOneRow}
 use Rattle.format.specs.Readers.{Fields, fieldsOf, newer, shows, refuses, shownHeight, tableCount, knowsDepth, knowsCompression, pairs, rowLength, storedAt, plainCell, paletteOf, picture, streamed, headNeeds, pixelNeeds, body, readFields, read}
 use Rattle.format.specs.Shown.{Cell, index, Shown}
 use Rattle.format.proofs.Passing.{or-false, and-false}
 use Rattle.format.proofs.Pictures.{some-cell}
 use Rattle.format.proofs.PlainCells.{length-row}
 use Rattle.reader.specs.Numbers.{cellNumbers, rowNumbers, numbersOf, headBytes, tableBytes, profileAt, profileBytes}
-use Rattle.reader.specs.Refusals.{writtenPair, isCoded, masksEnd, neverWritten, headerOutside, masksOutside, tableOutside, rowsOutside, profileOutside, outsideFile, streamFails}
+use Rattle.reader.specs.Refusals.{writtenPair, isCoded, masksEnd, neverWritten, headOutside, rowsOutside, profileOutside, outsideFile, streamFails}
 use Rattle.cells.specs.Streams.{isRefused, cellsIn}
 use Rattle.reader.specs.Rows.{cellIn, numbersIn, plainNumbers, streamNumbers}
-use Rattle.reader.proofs.Heads.{depth-cases, writtenDepth, Sound, sound-at}
+use Rattle.reader.proofs.Heads.{depth-cases, writtenDepth, Sound, sound-at, head-parts, first-inside}
 use Rattle.reader.proofs.PlainRows.{ones-are, bits-fit}
 use Rattle.reader.proofs.Stops.{stops-refused}
 
 -- ---- what is known where 17 and 18 do not apply
 
-pub record Opened (file : List ℕ) (t : Fields) : Type 0 where
+-- of the head
+pub record HeadInside (file : List ℕ) (t : Fields) : Type 0 where
   pub fields : t ≡ fieldsOf file
   pub sound : Sound t
   pub first : 54 ≤ length file
   pub masks : (eqb (t .compression) 3 || eqb (t .compression) 6) ≡ true → masksEnd (t .compression) ≤ length file
   pub table : headBytes t + tableBytes t ≤ length file
+
+-- of the whole file
+pub record Opened (file : List ℕ) (t : Fields) : Type 0 where
+  pub head : HeadInside file t
   pub rows : isCoded (t .compression) ≡ false → t .offset + shownHeight t * rowLength (t .width) (t .depth) ≤ length file
   pub profile : profileAt file + profileBytes file ≤ length file
 
+pub head-inside : (file : List ℕ) (t : Fields) → t ≡ fieldsOf file → t .height < 4294967296 → neverWritten file ≡ false → headOutside (length file) t ≡ false → HeadInside file t
+head-inside file t e tall never outside =
+    let n = length file in
+    let p = head-parts n t outside in
+    let first = first-inside n t outside in
+    record {
+      fields = e;
+      sound = sound-at file t e first tall never;
+      first = first;
+      masks = λ m. ltb-false n (masksEnd (t .compression)) (and-false (eqb (t .compression) 3 || eqb (t .compression) 6) _ (p .1) m);
+      table = ltb-false n (headBytes t + tableBytes t) (p .2);
+    }
+
 -- the parts of 18
 pub outside-parts : (file : List ℕ) → outsideFile file ≡ false
-    → (headerOutside (length file) (fieldsOf file) ≡ false) × (masksOutside (length file) (fieldsOf file) ≡ false) × (tableOutside (length file) (fieldsOf file) ≡ false)
-    × (rowsOutside (length file) (fieldsOf file) ≡ false) × (profileOutside file ≡ false)
+    → (headOutside (length file) (fieldsOf file) ≡ false) × (rowsOutside (length file) (fieldsOf file) ≡ false) × (profileOutside file ≡ false)
 unfolding outsideFile
 outside-parts file outside =
     let n = length file in
     let u = fieldsOf file in
-    let p1 = or-false (headerOutside n u || masksOutside n u || tableOutside n u || rowsOutside n u) (profileOutside file) outside in
-    let p2 = or-false (headerOutside n u || masksOutside n u || tableOutside n u) (rowsOutside n u) (p1 .0) in
-    let p3 = or-false (headerOutside n u || masksOutside n u) (tableOutside n u) (p2 .0) in
-    let p4 = or-false (headerOutside n u) (masksOutside n u) (p3 .0) in
-    (p4 .0, p4 .1, p3 .1, p2 .1, p1 .1)
+    let p = or-false (headOutside n u || rowsOutside n u) (profileOutside file) outside in
+    let q = or-false (headOutside n u) (rowsOutside n u) (p .0) in
+    (q .0, q .1, p .1)
 
 pub opened : (file : List ℕ) (t : Fields) → t ≡ fieldsOf file → t .height < 4294967296 → neverWritten file ≡ false → outsideFile file ≡ false → Opened file t
 opened file t e tall never outside =
     let n = length file in
     let u = fieldsOf file in
     let p = outside-parts file outside in
-    let first : 54 ≤ n = ltb-false n 54 (or-false (ltb n 54) (ltb n (headBytes u)) (p .0) .0) in
     record {
-      fields = e;
-      sound = sound-at file t e first tall never;
-      first = first;
-      masks = λ m. rw e (ltb-false n (masksEnd (u .compression)) (and-false (eqb (u .compression) 3 || eqb (u .compression) 6) _ (p .1) (rw (← e) m)));
-      table = rw e (ltb-false n (headBytes u + tableBytes u) (p .2));
-      rows = λ q. rw e (ltb-false n (u .offset + shownHeight u * rowLength (u .width) (u .depth)) (and-false (not (isCoded (u .compression))) _ (p .3) (rw (← e, q))));
-      profile = ltb-false n (profileAt file + profileBytes file) (p .4);
+      head = head-inside file t e tall never (rw e (p .0));
+      rows = λ q. rw e (ltb-false n (u .offset + shownHeight u * rowLength (u .width) (u .depth)) (and-false (not (isCoded (u .compression))) _ (p .1) (rw (← e, q))));
+      profile = ltb-false n (profileAt file + profileBytes file) (p .2);
     }
 
 -- ---- the newer reader knows what the writer writes
@@ -112,7 +123,7 @@ streamCell file t y x = index (getD (cellsIn (decode (t .depth) (t .width) (drop
 abbrev pub storedCell : List ℕ → Fields → ℕ → ℕ → Cell
 storedCell file t y x = plainCell file t (storedAt t y) x
 
-module _ (file : List ℕ) (t : Fields) (o : Opened file t) where
+module _ (file : List ℕ) (t : Fields) (o : HeadInside file t) where
   head-needs : headNeeds t ≤ length file
   unfolding headNeeds
   head-needs = go (eqb (t .compression) 6) (eqb (t .compression) 3) refl refl
@@ -126,25 +137,39 @@ module _ (file : List ℕ) (t : Fields) (o : Opened file t) where
       go false true e f = let m : 66 ≤ length file = subst (λ (k : Bool). cond k 70 66 ≤ length file) e (o .masks (rw f)) in omega (arith, o .table)
       go false false e f = omega (arith, o .table, o .first)
 
-  opens : read newer file ≡ body file t
-  unfolding read readFields
-  opens =
+  -- the tests that the readings of all rows and of one row begin with
+  passes : {A : Type 0} (a b c d e whole : A)
+      → cond (ltb (length file) 54) a
+      (cond (not (knowsDepth newer (t .depth))) b
+      (cond (not (knowsCompression newer (t .compression))) c
+      (cond (not (pairs (t .compression) (t .depth))) d
+      (cond (ltb (length file) (headNeeds t)) e whole))))
+      ≡ whole
+  passes a b c d e whole =
       rw (
         le-ltb (length file) 54 (o .first),
-        ← o .fields,
         knows-depth (t .depth) (o .sound .kind .depth),
         knows-compression (t .compression) (t .depth) (o .sound .kind .pair),
         known-pair (t .compression) (t .depth) (o .sound .kind .pair),
         le-ltb (length file) (headNeeds t) head-needs,
       )
 
+  opens : read newer file ≡ body file t
+  unfolding read readFields
+  opens = rw (← o .fields) (passes _ _ _ _ _ (body file t))
+
+  pub row-opens : (start : ℕ) → readOneRow newer file start ≡ rowBody file t start
+  unfolding readOneRow rowByFields
+  row-opens start = rw (← o .fields) (passes _ _ _ _ _ (rowBody file t start))
+
+module _ (file : List ℕ) (t : Fields) (o : Opened file t) where
   -- a stream that is read
   pub stream-shown : isCoded (t .compression) ≡ true → isRefused (decode (t .depth) (t .width) (drop (t .offset) file) (shownHeight t - 1)) ≡ false
       → read newer file ≡ shows (shownWith file t (streamCell file t))
   unfolding body streamed picture
   stream-shown c good =
-      let some = some-cell t (t .width) (shownHeight t) (o .sound .some-width) (o .sound .some-height) refl refl in
-      opens ∙ rw (some, c) (go (decode (t .depth) (t .width) (drop (t .offset) file) (shownHeight t - 1)) good)
+      let some = some-cell t (t .width) (shownHeight t) (o .head .sound .some-width) (o .head .sound .some-height) refl refl in
+      opens file t (o .head) ∙ rw (some, c) (go (decode (t .depth) (t .width) (drop (t .offset) file) (shownHeight t - 1)) good)
     where
       go : (d : Decoded) → isRefused d ≡ false → streamed file t d ≡ shows (shownWith file t (λ y x. index (getD (cellsIn d) ((shownHeight t - 1 - y) * t .width + x) 0)))
       go (filled cells taken) e = refl
@@ -154,7 +179,7 @@ module _ (file : List ℕ) (t : Fields) (o : Opened file t) where
   pixel-needs : isCoded (t .compression) ≡ false → pixelNeeds t ≤ length file
   unfolding pixelNeeds
   pixel-needs c =
-      let h : shownHeight t ≡ suc (shownHeight t - 1) = omega (arith, o .sound .some-height) in
+      let h : shownHeight t ≡ suc (shownHeight t - 1) = omega (arith, o .head .sound .some-height) in
       let m : shownHeight t * rowLength (t .width) (t .depth) ≡ (shownHeight t - 1) * rowLength (t .width) (t .depth) + rowLength (t .width) (t .depth)
       = ap (λ (n : ℕ). n * rowLength (t .width) (t .depth)) h ∙ suc-mul (shownHeight t - 1) (rowLength (t .width) (t .depth)) in
       let b : (t .width * t .depth + 7) / 8 ≤ rowLength (t .width) (t .depth) = rw (length-row (t .depth) (t .width)) (bits-fit (t .width) (t .depth)) in
@@ -163,8 +188,8 @@ module _ (file : List ℕ) (t : Fields) (o : Opened file t) where
   pub rows-shown : isCoded (t .compression) ≡ false → read newer file ≡ shows (shownWith file t (storedCell file t))
   unfolding body picture
   rows-shown c =
-      let some = some-cell t (t .width) (shownHeight t) (o .sound .some-width) (o .sound .some-height) refl refl in
-      opens ∙ rw (some, c, le-ltb (length file) (pixelNeeds t) (pixel-needs c))
+      let some = some-cell t (t .width) (shownHeight t) (o .head .sound .some-width) (o .head .sound .some-height) refl refl in
+      opens file t (o .head) ∙ rw (some, c, le-ltb (length file) (pixelNeeds t) (pixel-needs c))
 
 -- ---- what is shown, as numbers
 
@@ -173,7 +198,7 @@ unfolding rowNumbers
 row-append [] ys = refl
 row-append (x ∷ xs) ys = rw (row-append xs ys) (sym (append-assoc (cellNumbers x) (rowNumbers xs) (rowNumbers ys)))
 
-row-tab : (f : ℕ → Cell) (n : ℕ) → rowNumbers (tab f n) ≡ cat (λ x. cellNumbers (f x)) n
+pub row-tab : (f : ℕ → Cell) (n : ℕ) → rowNumbers (tab f n) ≡ cat (λ x. cellNumbers (f x)) n
 unfolding tab cat rowNumbers
 row-tab f zero = refl
 row-tab f (suc n) = row-append (tab f n) (f n ∷ []) ∙ rw (row-tab f n, append-nil (cellNumbers (f n)))
@@ -219,5 +244,5 @@ pub newer-shown : (file : List ℕ) (t : Fields) → Opened file t → streamFai
 newer-shown file t o good = go (isCoded (t .compression)) refl
   where
     go : (b : Bool) → isCoded (t .compression) ≡ b → read newer file ≡ shows (shownWith file t (λ y x. cond b (streamCell file t y x) (storedCell file t y x)))
-    go true c = stream-shown file t o c (fails-coded file t (o .fields) c ∙ good)
+    go true c = stream-shown file t o c (fails-coded file t (o .head .fields) c ∙ good)
     go false c = rows-shown file t o c

@@ -4,12 +4,14 @@ use mathlib.Core.List.{List}
 use Prim.Native.Nat.{ℕ, zero, suc}
 use lib.ListN.{take, drop}
 use Rattle.leaves.specs.Put.{put}
+use Rattle.format.specs.OneRow.{RowReading, showsRow, refusesRow}
 use Rattle.format.specs.Readers as Readers
 use Rattle.format.specs.Readers.{shows, refuses}
-use Rattle.format.specs.Shown.{Shown}
+use Rattle.format.specs.Shown.{Cell, Shown}
 use Rattle.reader.specs.declared.read.Reading.{Reading}
 use Rattle.reader.specs.Answers.{refusedReading, Outcome, Read, ReadInto}
-use Rattle.reader.specs.Numbers.{numbersOf}
+use Rattle.reader.specs.Numbers.{rowNumbers, numbersOf}
+use Rattle.reader.specs.OneRow.{RowOutcome, ReadRow}
 
 reading : ℕ → ℕ → ℕ → ℕ → ℕ → ℕ → Reading
 reading refusal width height depth at bytes = record { refusal = refusal; width = width; height = height; depth = depth; «profile_at» = at; «profile_bytes» = bytes }
@@ -71,3 +73,22 @@ module _ (file head table cells laterHead laterTable laterCells otherHead otherT
         p .depth-is ∙ (λ z. e z .depth) ∙ sym (q .depth-is),
         p .part ∙ (λ z. take (e z .«profile_bytes») (drop (e z .«profile_at») file)) ∙ sym (q .part),
       )
+
+-- ---- one row
+
+rowOr : List Cell → RowReading → List Cell
+rowOr other (showsRow row) = row
+rowOr other (refusesRow cause) = other
+
+module _ (file : List ℕ) (start : ℕ) (cells laterCells otherCells : List ℕ) where
+  same-row : (n : ℕ) → RowOutcome n file start cells laterCells → RowOutcome n file start cells otherCells → laterCells ≡ otherCells
+  unfolding rowOr
+  same-row zero p q =
+      let one : p .row ≡ q .row = λ z. rowOr (p .row) ((sym (p .newer-shows) ∙ q .newer-shows) z) in
+      p .cells-filled ∙ (λ z. put cells 0 (rowNumbers (one z))) ∙ sym (q .cells-filled)
+  same-row (suc n) p q = p ∙ sym q
+
+  pub row-determined : {number other : ℕ} → ReadRow file start cells laterCells number → ReadRow file start cells otherCells other → (number ≡ other) × (laterCells ≡ otherCells)
+  row-determined {number} {other} p q =
+      let e : other ≡ number = q .first ∙ sym (p .first) in
+      (sym e, same-row number (p .outcome) (subst (λ (n : ℕ). RowOutcome n file start cells otherCells) e (q .outcome)))

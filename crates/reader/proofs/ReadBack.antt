@@ -133,11 +133,11 @@ module _ (i : Input) (call : Call i) where
   a : Accepted i
   a = call-accepted i call
 
-  shown-height : shownHeight (fieldsOf file) ≡ i .source .height
+  pub shown-height : shownHeight (fieldsOf file) ≡ i .source .height
   shown-height = height-shown (fieldsOf file) (i .options .«top_down») (i .source .height) (a .some-height) (a .tall) (ap (λ (t : Fields). t .height) (fields-read i a))
 
   -- 17 does not apply
-  never-written : neverWritten file ≡ false
+  pub never-written : neverWritten file ≡ false
   never-written = never-applies i a (masks-pass i call)
 
   needs : headNeeds (fieldsOf file) ≤ length file
@@ -170,7 +170,7 @@ module _ (i : Input) (call : Call i) where
           le-ltb (length file) _ (omega (arith, plain, raw, offset))
 
   -- 18 does not apply
-  outside-none : outsideFile file ≡ false
+  pub outside-none : outsideFile file ≡ false
   unfolding outsideFile
   outside-none =
       let header : headerOutside (length file) (fieldsOf file) ≡ false

@@ -149,6 +149,11 @@ module _ (d w : ℕ) where
   stops-left (b ∷ bs) (suc above) (suc room) zero = sym (code-left (suc above) room (b ∷ bs) ∙ in-row (suc above) room b bs (λ a r s. stops-left bs a r s))
   stops-left (b ∷ bs) (suc above) zero zero = sym (row-full above b bs (λ a r s. stops-left bs a r s))
 
+-- a row of its own stops where it is refused
+pub stops-row : (d w : ℕ) (bs : List ℕ) → stops d w 0 w bs 0 ≡ isRefused (readRow d w bs)
+unfolding restFails
+stops-row d w bs = stops-left d w bs 0 w 0
+
 -- a stream stops where the decoder refuses it
 pub stops-refused : (d w top : ℕ) (bs : List ℕ) → stops d w top w bs 0 ≡ isRefused (decode d w bs top)
 unfolding then rowsBelow

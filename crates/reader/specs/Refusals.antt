@@ -96,6 +96,10 @@ masksOutside n t = (eqb (t .compression) 3 || eqb (t .compression) 6) && ltb n (
 abbrev pub tableOutside : ℕ → Fields → Bool
 tableOutside n t = ltb n (headBytes t + tableBytes t)
 
+-- the head: header, masks and table
+abbrev pub headOutside : ℕ → Fields → Bool
+headOutside n t = headerOutside n t || masksOutside n t || tableOutside n t
+
 -- whole stored rows, with their padding
 abbrev pub rowsOutside : ℕ → Fields → Bool
 rowsOutside n t = not (isCoded (t .compression)) && ltb n (t .offset + shownHeight t * rowLength (t .width) (t .depth))
@@ -107,11 +111,7 @@ profileOutside file = ltb (length file) (profileAt file + profileBytes file)
 -- 18
 unfoldable pub outsideFile : List ℕ → Bool
 outsideFile file =
-    headerOutside (length file) (fieldsOf file)
-    || masksOutside (length file) (fieldsOf file)
-    || tableOutside (length file) (fieldsOf file)
-    || rowsOutside (length file) (fieldsOf file)
-    || profileOutside file
+    headOutside (length file) (fieldsOf file) || rowsOutside (length file) (fieldsOf file) || profileOutside file
 
 -- ---- 15: "Lent buffers too short", of so many bytes and numbers
 

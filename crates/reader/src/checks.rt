@@ -8,7 +8,7 @@ ghost use Rattle.leaves.specs.Refusals.{firstApplying};
 ghost use Rattle.format.specs.Readers.{fieldsOf, dwordAt};
 ghost use Rattle.reader.specs.Fields.{fieldsIn};
 ghost use Rattle.reader.specs.Numbers.{hasProfile, profileBytes, profileAt};
-ghost use Rattle.reader.specs.Refusals.{strangeSizes, strangeKind, strangeMasks, masksEnd, neverWritten, outsideFile, isCoded, openRows};
+ghost use Rattle.reader.specs.Refusals.{strangeSizes, strangeKind, strangeMasks, masksEnd, neverWritten, headOutside, outsideFile, isCoded, openRows};
 use crate::fields::HeadFields;
 use crate::fields::dword_at;
 use crate::fields::full_table;
@@ -119,7 +119,7 @@ fn strange_masks(file: &[u8], t: HeadFields) -> bool
 }
 
 // 17.
-fn never_written(file: &[u8], t: HeadFields) -> bool
+pub(crate) fn never_written(file: &[u8], t: HeadFields) -> bool
     requires { ⌜ fieldsIn t ≡ fieldsOf (now file) ⌝ }
     ensures { λ r. ⌜ r ≡ neverWritten (now (file .entry)) ⌝ }
 {
@@ -163,6 +163,16 @@ pub(crate) fn profile_at(file: &[u8], bytes: u32) -> usize
     14 + dword_at(file, 126) as usize
 }
 
+// Whether a byte of header, masks or table lies outside a file of n bytes.
+pub(crate) fn head_outside(n: usize, t: HeadFields) -> bool
+    ensures { λ r. ⌜ r ≡ headOutside n (fieldsIn t) ⌝ }
+{
+    let c = t.compression;
+    let head = 14 + t.header_size as usize;
+    let table = 4 * table_count(t) as usize;
+    (n < 54) | (n < head) | has_masks(c) & (n < masks_end(c)) | (n < head + table)
+}
+
 // 18, of a file that has what the writer writes.
 fn outside_file(file: &[u8], t: HeadFields) -> bool
     requires { ⌜ fieldsIn t ≡ fieldsOf (now file) ⌝ }
@@ -170,21 +180,13 @@ fn outside_file(file: &[u8], t: HeadFields) -> bool
     ensures { λ r. ⌜ r ≡ outsideFile (now (file .entry)) ⌝ }
 {
     let n = file.len();
-    if n < 54 {
+    if head_outside(n, t) {
         return true;
     }
-    let c = t.compression;
-    let head = 14 + t.header_size as usize;
-    let table = 4 * table_count(t) as usize;
     let rows = t.offset as usize + shown_height(t) as usize * row_stride(t.width, t.depth);
     let profile = profile_bytes(file, t);
     let profile_end = profile_at(file, profile) + profile as usize;
-    (n < 54)
-        | (n < head)
-        | has_masks(c) & (n < masks_end(c))
-        | (n < head + table)
-        | !is_coded(c) & (n < rows)
-        | (n < profile_end)
+    !is_coded(t.compression) & (n < rows) | (n < profile_end)
 }
 
 // 17, 18 or 0.

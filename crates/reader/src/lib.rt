@@ -3,3 +3,4 @@ pub mod checks;
 pub mod fields;
 pub mod picture;
 pub mod read;
+pub mod row;

@@ -47,7 +47,7 @@ fn five_bits() -> Channels
 }
 
 // The channels of a cell of 16 or 32 bits.
-fn channels_of(file: &[u8], compression: u32) -> Channels
+pub(crate) fn channels_of(file: &[u8], compression: u32) -> Channels
     ensures { λ r. ⌜ (r ≡ channelsFor (now (file .entry)) compression) × ChannelsOk r ⌝ }
 {
     if compression == BI_RGB {
@@ -99,7 +99,7 @@ pub(crate) fn numbers_each(depth: u16) -> usize
 }
 
 // The stored row that begins at a place.
-fn put_row(
+pub(crate) fn put_row(
     file: &[u8],
     from: usize,
     t: HeadFields,

@@ -28,7 +28,7 @@ cast-stream-fails-3 : tie.Need-cast-stream-fails-3
 cast-stream-fails-3 c = omega arith
 
 stream-fails-requires : tie.Need-stream-fails-requires
-stream-fails-requires c κs = let a = c .before .before .before .before .before .before .args in let t = fieldsIn (a .t) in let o = (opened (now (a .file)) t (c .before .before .before .before .before .before .pre .0) (rw (c .before .before .before .before .before .before .pre .0) (height-small (now (a .file)) (λ k. c .before .before .before .before .before .shared-slice-known .given k .fits))) (c .before .before .before .before .before .before .pre .1 .0) (c .before .before .before .before .before .before .pre .1 .1)) in let k = coded-kind t (o .sound) (sym (c .before .before .before .before .is-coded .ensures) ∙ not-false _ (c .before .before .before .if1 .left)) in (omega arith, (k .1, (omega (arith, o .sound .wide), rw (c .shown-height .ensures) (o .sound .some-height))))
+stream-fails-requires c κs = let a = c .before .before .before .before .before .before .args in let t = fieldsIn (a .t) in let o = (opened (now (a .file)) t (c .before .before .before .before .before .before .pre .0) (rw (c .before .before .before .before .before .before .pre .0) (height-small (now (a .file)) (λ k. c .before .before .before .before .before .shared-slice-known .given k .fits))) (c .before .before .before .before .before .before .pre .1 .0) (c .before .before .before .before .before .before .pre .1 .1)) in let k = coded-kind t (o .head .sound) (sym (c .before .before .before .before .is-coded .ensures) ∙ not-false _ (c .before .before .before .if1 .left)) in (omega arith, (k .1, (omega (arith, o .head .sound .wide), rw (c .shown-height .ensures) (o .head .sound .some-height))))
 
 returns-2 : tie.Need-returns-2
 returns-2 c = let a = c .before .before .before .before .before .before .before .args in let t = fieldsIn (a .t) in c .stream-fails .ensures ∙ rw (c .before .shown-height .ensures) (fails-coded (now (a .file)) t (c .before .before .before .before .before .before .before .pre .0) (sym (c .before .before .before .before .before .is-coded .ensures) ∙ not-false _ (c .before .before .before .before .if1 .left)))

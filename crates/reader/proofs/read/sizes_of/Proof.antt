@@ -42,13 +42,13 @@ cast-t13 : tie.Need-cast-t13
 cast-t13 c = omega arith
 
 mul-t14 : tie.Need-mul-t14
-mul-t14 c = let a = c .before .before .before .before .before .before .before .before .args in let t = fieldsIn (a .t) in omega (arith, product-small t (c .before .before .before .before .shown-height .result) 4 ((opened-at (now (a .file)) t (λ k. c .before .before .before .before .before .before .before .shared-slice-known .given k .fits) (c .before .before .before .before .before .before .before .before .pre) (sym (c .before .before .before .before .before .before .open-number .ensures) ∙ c .before .before .before .before .before .if1 .left)) .sound) (c .before .before .before .before .shown-height .ensures) (omega arith))
+mul-t14 c = let a = c .before .before .before .before .before .before .before .before .args in let t = fieldsIn (a .t) in omega (arith, product-small t (c .before .before .before .before .shown-height .result) 4 ((opened-at (now (a .file)) t (λ k. c .before .before .before .before .before .before .before .shared-slice-known .given k .fits) (c .before .before .before .before .before .before .before .before .pre) (sym (c .before .before .before .before .before .before .open-number .ensures) ∙ c .before .before .before .before .before .if1 .left)) .head .sound) (c .before .before .before .before .shown-height .ensures) (omega arith))
 
 numbers-each-requires : tie.Need-numbers-each-requires
 numbers-each-requires c κs = omega arith
 
 mul-t16 : tie.Need-mul-t16
-mul-t16 c = let a = c .before .before .before .before .before .before .before .before .before .args in let t = fieldsIn (a .t) in omega (arith, product-small t (c .before .before .before .before .before .shown-height .result) (c .numbers-each .result) ((opened-at (now (a .file)) t (λ k. c .before .before .before .before .before .before .before .before .shared-slice-known .given k .fits) (c .before .before .before .before .before .before .before .before .before .pre) (sym (c .before .before .before .before .before .before .before .open-number .ensures) ∙ c .before .before .before .before .before .before .if1 .left)) .sound) (c .before .before .before .before .before .shown-height .ensures) (few-each (a .t .depth) (c .numbers-each .ensures)))
+mul-t16 c = let a = c .before .before .before .before .before .before .before .before .before .args in let t = fieldsIn (a .t) in omega (arith, product-small t (c .before .before .before .before .before .shown-height .result) (c .numbers-each .result) ((opened-at (now (a .file)) t (λ k. c .before .before .before .before .before .before .before .before .shared-slice-known .given k .fits) (c .before .before .before .before .before .before .before .before .before .pre) (sym (c .before .before .before .before .before .before .before .open-number .ensures) ∙ c .before .before .before .before .before .before .if1 .left)) .head .sound) (c .before .before .before .before .before .shown-height .ensures) (few-each (a .t .depth) (c .numbers-each .ensures)))
 
 returns-2 : tie.Need-returns-2
 returns-2 c = let a = c .before .before .before .before .before .before .before .before .before .args in let t = fieldsIn (a .t) in sizes-told (now (a .file)) t (c .before .before .before .before .before .before .before .open-number .result) _ _ _ (c .before .before .before .before .before .before .before .before .before .pre) (c .before .before .before .before .before .before .before .open-number .ensures) (c .before .before .before .before .before .before .if1 .left) (c .before .before .before .before .before .shown-height .ensures) (c .before .before .table-count .ensures) (c .numbers-each .ensures)
