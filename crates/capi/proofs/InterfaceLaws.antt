@@ -18,7 +18,7 @@ use Rattle.planner.specs.declared.encoder.Encoded.{Encoded}
 use Rattle.planner.specs.declared.encoder.Encoded.the-variants as encoded
 use Rattle.planner.specs.declared.plan.SizeBound.{SizeBound}
 use Rattle.planner.specs.declared.plan.SizeBound.the-variants as sized
-use Rattle.planner.specs.Answers.{bytesFor, formatFor, laterFor, boundFor, Written, Sized}
+use Rattle.planner.specs.Answers.{bytesFor, formatFor, laterFor, boundFor, Written, WrittenWithStarts, Sized}
 use Rattle.planner.specs.Calls.{called}
 use Rattle.planner.proofs.Defaults.{WrittenBefore, SizedBefore, ByDefault, written-before, sized-before}
 use Rattle.planner.proofs.Promises.{written-determined, sized-determined}
@@ -29,7 +29,7 @@ use Rattle.capi.specs.declared.BmpSource.{BmpSource}
 use Rattle.capi.specs.declared.SourceFormat.{SourceFormat}
 use Rattle.capi.specs.declared.SourceFormat.the-variants.{Known, Unknown}
 use lib.Seq.{getD-append-add}
-use Rattle.capi.specs.Interface.{formats, formatAt, sourceOf, defaultSettings, optionsOf, encodedAnswer, boundAnswer, unknownFormat, Encodes, Bounds, EncodePromise, BoundPromise}
+use Rattle.capi.specs.Interface.{formats, formatAt, sourceOf, defaultSettings, optionsOf, encodedAnswer, boundAnswer, unknownFormat, Encodes, Bounds, EncodePromise, StartsPromise, BoundPromise}
 
 -- the promise of the writing call in numbers alone
 abbrev formatsNumber : List EncodedBmpFormat → ℕ
@@ -71,6 +71,13 @@ module _ (l : SourceFormat) (f : BmpPixelFormat) (source : BmpSource) (options :
       subst (λ (k : SourceFormat). EncodePromise k source options settings plane palette icc linked offset was later a) known
       (record { writer = r; promise = subst (λ (i : Input). Written i offset was later r) (λ z. called (es z) (eo z) plane palette icc linked) w; answer = e })
 
+  pub starts-known : (offset : ℕ) (was later starts laterStarts : List ℕ) (r : Encoded) (a : BmpAnswer)
+      → WrittenWithStarts (called src chosen plane palette icc linked) offset was later starts laterStarts r → a ≡ encodedAnswer r
+      → StartsPromise l source options settings plane palette icc linked offset was later starts laterStarts a
+  starts-known offset was later starts laterStarts r a w e =
+      subst (λ (k : SourceFormat). StartsPromise k source options settings plane palette icc linked offset was later starts laterStarts a) known
+      (record { writer = r; promise = subst (λ (i : Input). WrittenWithStarts i offset was later starts laterStarts r) (λ z. called (es z) (eo z) plane palette icc linked) w; answer = e })
+
   pub bound-known : (r : SizeBound) (a : BmpAnswer) → Sized (called src chosen plane palette icc linked) r → a ≡ boundAnswer r
       → BoundPromise l source options settings plane palette icc linked a
   bound-known r a s e =
@@ -82,6 +89,11 @@ pub encode-unknown : (l : SourceFormat) (source : BmpSource) (options : BmpOptio
     → EncodePromise l source options settings plane palette icc linked offset was was unknownFormat
 encode-unknown l source options settings plane palette icc linked offset was e =
     subst (λ (k : SourceFormat). EncodePromise k source options settings plane palette icc linked offset was was unknownFormat) e (refl, refl)
+
+pub starts-unknown : (l : SourceFormat) (source : BmpSource) (options : BmpOptions) (settings : BmpSettings) (plane palette icc linked : List ℕ) (offset : ℕ) (was starts : List ℕ) → Unknown ≡ l
+    → StartsPromise l source options settings plane palette icc linked offset was was starts starts unknownFormat
+starts-unknown l source options settings plane palette icc linked offset was starts e =
+    subst (λ (k : SourceFormat). StartsPromise k source options settings plane palette icc linked offset was was starts starts unknownFormat) e (refl, refl, refl)
 
 pub bound-unknown : (l : SourceFormat) (source : BmpSource) (options : BmpOptions) (settings : BmpSettings) (plane palette icc linked : List ℕ) → Unknown ≡ l
     → BoundPromise l source options settings plane palette icc linked unknownFormat

@@ -15,7 +15,7 @@ use Rattle.planner.specs.declared.encoder.Encoded.{Encoded}
 use Rattle.planner.specs.declared.encoder.Encoded.the-variants as encoded
 use Rattle.planner.specs.declared.plan.SizeBound.{SizeBound}
 use Rattle.planner.specs.declared.plan.SizeBound.the-variants as sized
-use Rattle.planner.specs.Answers.{Written, Sized}
+use Rattle.planner.specs.Answers.{Written, WrittenWithStarts, Sized}
 use Rattle.planner.specs.Calls.{called}
 use Rattle.capi.specs.declared.SourceFormat.{SourceFormat}
 use Rattle.capi.specs.declared.SourceFormat.the-variants.{Known, Unknown}
@@ -94,6 +94,12 @@ pub record Encodes (i : Input) (offset : ℕ) (was later : List ℕ) (numbers : 
   pub promise : Written i offset was later writer
   pub answer : numbers ≡ encodedAnswer writer
 
+-- the same of the call that fills a list of row starts
+pub record EncodesWithStarts (i : Input) (offset : ℕ) (was later starts laterStarts : List ℕ) (numbers : BmpAnswer) : Type 0 where
+  pub writer : Encoded
+  pub promise : WrittenWithStarts i offset was later starts laterStarts writer
+  pub answer : numbers ≡ encodedAnswer writer
+
 pub record Bounds (i : Input) (numbers : BmpAnswer) : Type 0 where
   pub writer : SizeBound
   pub promise : Sized i writer
@@ -104,6 +110,12 @@ abbrev pub EncodePromise : SourceFormat → BmpSource → BmpOptions → BmpSett
 EncodePromise (Known f) source options settings plane palette icc linked offset was later answer =
     Encodes (called (sourceOf source f) (optionsOf options settings) plane palette icc linked) offset was later answer
 EncodePromise Unknown source options settings plane palette icc linked offset was later answer = (answer ≡ unknownFormat) × (later ≡ was)
+
+abbrev pub StartsPromise : SourceFormat → BmpSource → BmpOptions → BmpSettings → List ℕ → List ℕ → List ℕ → List ℕ → ℕ → List ℕ → List ℕ → List ℕ → List ℕ → BmpAnswer → Type 0
+StartsPromise (Known f) source options settings plane palette icc linked offset was later starts laterStarts answer =
+    EncodesWithStarts (called (sourceOf source f) (optionsOf options settings) plane palette icc linked) offset was later starts laterStarts answer
+StartsPromise Unknown source options settings plane palette icc linked offset was later starts laterStarts answer =
+    (answer ≡ unknownFormat) × (later ≡ was) × (laterStarts ≡ starts)
 
 abbrev pub BoundPromise : SourceFormat → BmpSource → BmpOptions → BmpSettings → List ℕ → List ℕ → List ℕ → List ℕ → BmpAnswer → Type 0
 BoundPromise (Known f) source options settings plane palette icc linked answer = Bounds (called (sourceOf source f) (optionsOf options settings) plane palette icc linked) answer

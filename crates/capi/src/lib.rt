@@ -6,8 +6,9 @@ ghost use Rattle.leaves.specs.Masks.{bitfieldsRows};
 ghost use Rattle.leaves.specs.Refusals.{firstNumber, firstApplying};
 ghost use Rattle.reader.specs.Refusals.{openRows};
 ghost use Rattle.reader.specs.Answers.{sizesFor};
+ghost use Rattle.reader.specs.OneRow.{ReadRow};
 ghost use Rattle.grids.specs.Scale.{Shaded};
-ghost use Rattle.capi.specs.Interface.{formatAt, defaultSettings, sourceOf, optionsOf, encodedAnswer, boundAnswer, EncodePromise, BoundPromise};
+ghost use Rattle.capi.specs.Interface.{formatAt, defaultSettings, sourceOf, optionsOf, encodedAnswer, boundAnswer, EncodePromise, StartsPromise, BoundPromise};
 ghost use Rattle.capi.specs.Reading.{readingAnswer, sizesAnswer, ReadPromise};
 use grids::scale::shade_quotes;
 use leaves::bitfields::BmpBitfields;
@@ -20,12 +21,14 @@ use leaves::types::MAX_FILE;
 use leaves::types::PELS_PER_METER;
 use planner::encoder::Encoded;
 use planner::encoder::encode_into;
+use planner::encoder::encode_with_starts;
 use planner::plan::SizeBound;
 use planner::plan::encoded_size_bound;
 use reader::read::Reading;
 use reader::read::ReadingSizes;
 use reader::read::read;
 use reader::read::read_sizes;
+use reader::row::read_row;
 
 // 76 bytes.
 #[repr(C)]
@@ -246,6 +249,46 @@ pub extern "C" fn bmp_encode_into<'a>(
     )
 }
 
+// As `bmp_encode_into_with`, and `starts` gets the place in the file of each stored row's first byte, in stored order.
+#[no_mangle]
+pub extern "C" fn bmp_encode_with_starts<'a>(
+    source: BmpSource,
+    options: BmpOptions,
+    settings: BmpSettings,
+    plane: &[u8],
+    palette: &[u8],
+    icc: &'a [u8],
+    linked_icc: &'a [u8],
+    out: &mut [u8],
+    offset: usize,
+    starts: &mut [u64],
+) -> BmpAnswer
+    ensures { λ r. ⌜ StartsPromise (formatAt (source .format)) source options settings (now (plane .entry)) (now (palette .entry)) (now (icc .entry)) (now («linked_icc» .entry)) offset (now (out .entry)) (now (out .exit)) (now (starts .entry)) (now (starts .exit)) r ⌝ }
+{
+    let named = format_at(source.format);
+    let SourceFormat::Known(format) = named else {
+        return BmpAnswer {
+            bytes: 0,
+            refusal: 255,
+            format: 0,
+        };
+    };
+    let src = source_of(source, format);
+    let chosen = options_of(options, settings);
+    let answer = encode_with_starts(
+        src,
+        chosen,
+        plane,
+        palette,
+        icc,
+        linked_icc,
+        out,
+        offset,
+        starts,
+    );
+    encode_answer(answer)
+}
+
 // How many bytes `bmp_encode_into_with` asks for.
 #[no_mangle]
 pub extern "C" fn bmp_encoded_size_bound_with<'a>(
@@ -374,6 +417,15 @@ pub extern "C" fn bmp_read_sizes(file: &[u8]) -> BmpReadingSizes
 {
     let answer = read_sizes(file);
     sizes_answer(answer)
+}
+
+// Reads the row that begins at a place of the file into `cells` and answers 0; or changes nothing and answers 17, 18, 15
+// or 19.
+#[no_mangle]
+pub extern "C" fn bmp_read_row(file: &[u8], start: u64, cells: &mut [u32]) -> u32
+    ensures { λ r. ⌜ ReadRow (now (file .entry)) start (now (cells .entry)) (now (cells .exit)) r ⌝ }
+{
+    read_row(file, start, cells)
 }
 
 // Paints the quotes of two lists into the plane, an index a cell, and answers 0; or changes nothing and answers 15, 22 or
