@@ -1,6 +1,6 @@
 // Replays a stored sample of the original encoder's answers, which comes on standard input
 // (bench/replay/README.md says how it was made and in which format), then runs document 01's examples that
-// are no M lines. Every file that is written is read back.
+// are no M lines. Every file that is written is read back, whole and row by row.
 mod agreed;
 mod answers;
 mod buffer;
@@ -12,6 +12,7 @@ mod printing;
 mod reading;
 mod sample;
 mod shown;
+mod starts;
 
 use crate::examples::cut_first;
 use crate::examples::four_by_one;

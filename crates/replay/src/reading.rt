@@ -19,6 +19,7 @@ use crate::shown::head_bytes;
 use crate::shown::index_count;
 use crate::shown::table_byte;
 use crate::shown::tail_of;
+use crate::starts::is_read_by_rows;
 use arguments::words::part;
 use leaves::encoder::EncodeSource;
 use leaves::image::BmpPixelFormat;
@@ -33,7 +34,7 @@ const SEED: u32 = 77;
 
 // Room for the numbers of every picture whose plane fits a record's space: 16-bit words have the most numbers,
 // four for two bytes.
-fn cell_space() -> [u32; 32768]
+pub(crate) fn cell_space() -> [u32; 32768]
     ensures { λ r. ⌜ 32768 ≡ length r ⌝ }
 {
     [UNREAD; 32768]
@@ -79,7 +80,7 @@ fn numbers_each(format: BmpPixelFormat) -> usize {
 }
 
 // How many numbers a row has.
-fn numbers_in(format: BmpPixelFormat, width: u32) -> usize {
+pub(crate) fn numbers_in(format: BmpPixelFormat, width: u32) -> usize {
     if index_count(format) != 0 {
         return width as usize;
     }
@@ -87,7 +88,7 @@ fn numbers_in(format: BmpPixelFormat, width: u32) -> usize {
 }
 
 // Whether the numbers from `from` on are those of the row at a place of the plane.
-fn is_row(
+pub(crate) fn is_row(
     src: EncodeSource,
     options: EncodeOptions,
     plane: &[u8],
@@ -111,7 +112,7 @@ fn is_row(
 }
 
 // Whether the numbers from a place on are as they were lent.
-fn is_unread(cells: &[u32], from: usize) -> bool {
+pub(crate) fn is_unread(cells: &[u32], from: usize) -> bool {
     let mut all = true;
     let mut k = from;
     while k < cells.len() {
@@ -182,7 +183,8 @@ fn is_size(src: EncodeSource, options: EncodeOptions, reading: Reading) -> bool 
     size & (reading.refusal == 0) & (reading.depth == depth_of(src, options))
 }
 
-// Whether a file is read back: size, depth, head, table, cells and profile are what was handed in.
+// Whether a file is read back: size, depth, head, table, cells and profile are what was handed in, and each row alone is
+// its cells.
 pub(crate) fn is_read_back<'a>(
     src: EncodeSource,
     options: EncodeOptions,
@@ -209,7 +211,8 @@ pub(crate) fn is_read_back<'a>(
     let shown = is_plane(src, options, plane, cells);
     let tail = tail_of(src, options, icc, linked_icc);
     let profile = is_profile(file, reading.profile_at, reading.profile_bytes, tail);
-    size & filed & coloured & shown & profile
+    let by_rows = is_read_by_rows(src, options, plane, palette, icc, linked_icc, file);
+    size & filed & coloured & shown & profile & by_rows
 }
 
 // Files written, and files read back.
@@ -225,5 +228,5 @@ pub(crate) fn files_line(files: &[u32]) {
     decimal(number_at(files, 1) as u64);
     text(b" of ");
     decimal(number_at(files, 0) as u64);
-    text(b" files\n");
+    text(b" files, whole and row by row\n");
 }
