@@ -24,10 +24,10 @@ done
 gcc -std=c99 $strict -o "$work/example_c" clients/c/example.c -Iclients/c target/staticlib/libcapi.a
 gcc -std=c11 $strict -fsyntax-only clients/c/command.c -Iclients/c
 
-# The shared library: eight functions and no more, its name, and pkg-config.
+# The shared library: ten functions and no more, its name, and pkg-config.
 names=$(nm -D --defined-only target/clients/libbmp_writer.so | cut -d' ' -f3 | LC_ALL=C sort | tr '\n' ' ')
-[ "$names" = "bmp_check_masks bmp_encode_into bmp_encode_into_with bmp_encoded_size_bound \
-bmp_encoded_size_bound_with bmp_read bmp_read_sizes bmp_shade_quotes " ]
+[ "$names" = "bmp_check_masks bmp_encode_into bmp_encode_into_with bmp_encode_with_starts bmp_encoded_size_bound \
+bmp_encoded_size_bound_with bmp_read bmp_read_row bmp_read_sizes bmp_shade_quotes " ]
 readelf -d target/clients/libbmp_writer.so | grep -q 'soname: \[libbmp_writer.so.1\]'
 export PKG_CONFIG_PATH="$root/target/clients/pkgconfig"
 [ "$(pkg-config --modversion bmp_writer)" = "$(cat VERSION)" ]

@@ -3,9 +3,9 @@
  * is for C99 and C++98 and later.
  *
  * The calls work in memory that the caller lends and never allocate. Every pointer goes with its length in bytes, but
- * `cells` and the lists of doubles with their count of numbers; NULL with length 0 is allowed. `out`, and `plane` where
- * it is filled, overlap no input; `head`, `table` and `cells` overlap neither the file nor each other. A bool is 0
- * or 1. */
+ * `cells`, `starts` and the lists of doubles with their count of numbers; NULL with length 0 is allowed. `out` and
+ * `starts`, and `plane` where it is filled, overlap neither an input nor each other; `head`, `table` and `cells` overlap
+ * neither the file nor each other. A bool is 0 or 1. */
 #ifndef BMP_WRITER_H
 #define BMP_WRITER_H
 
@@ -50,8 +50,8 @@ enum bmp_written_format {
     BMP_WRITTEN_ALPHA_BITFIELDS = 11
 };
 
-/* Why a call is refused; the first that applies is answered, 255 before all others, 20 and 21 between 2 and 3.
- * `bmp_refusal_text` has the words. */
+/* Why a call is refused; the first that applies is answered, 255 before all others, 20 and 21 between 2 and 3, 24
+ * between 15 and 16. `bmp_refusal_text` has the words. */
 enum bmp_refusal {
     BMP_OK = 0,
     BMP_ZERO_DIMENSION = 1,      /* width or height is 0 */
@@ -80,6 +80,7 @@ enum bmp_refusal {
     BMP_NEGATIVE_RESOLUTION = 21, /* a resolution is negative */
     BMP_NOT_A_SCALE = 22,        /* quotes: no edge or over 254, an edge not a number, or edges not strictly rising */
     BMP_NOT_A_QUOTE = 23,        /* quotes: a low or high not a number, or a low above its high */
+    BMP_STARTS_TOO_SHORT = 24,   /* writing with starts: the list of row starts is shorter than the height */
     BMP_UNKNOWN_FORMAT = 255     /* `format` is none of those listed; this interface's own number */
 };
 
@@ -259,6 +260,15 @@ bmp_answer bmp_encoded_size_bound_with(bmp_source source, bmp_options options, b
                                        size_t palette_len, const uint8_t *icc, size_t icc_len,
                                        const uint8_t *linked_icc, size_t linked_icc_len);
 
+/* `bmp_encode_into_with`, which also fills `starts`: number k is the place in the file, counted from its first byte and
+ * not from the buffer's, of the first byte of stored row k, in a stream the first of its codes. Row 0 is the picture's
+ * bottom row, or its top row if top_down is on. `starts_len` is a count of numbers: fewer than the height are 24, which
+ * is tested directly after 15. Numbers past the height keep their values; with a refusal, 255 included, all do. */
+bmp_answer bmp_encode_with_starts(bmp_source source, bmp_options options, bmp_settings settings, const uint8_t *plane,
+                                  size_t plane_len, const uint8_t *palette, size_t palette_len, const uint8_t *icc,
+                                  size_t icc_len, const uint8_t *linked_icc, size_t linked_icc_len, uint8_t *out,
+                                  size_t out_len, size_t offset, uint64_t *starts, size_t starts_len);
+
 /* Reads a file back. `head` gets the first 14 bytes and the header; `table` four bytes an entry, as filed: blue, green,
  * red, 0; `cells` the cells row by row from the top: up to depth 8 an index, above it four numbers, red, green, blue
  * and alpha, as stored. Alpha is 0 but for compression 6, and a channel whose mask is 0 is 0. Values past those filled
@@ -269,6 +279,14 @@ bmp_reading bmp_read(const uint8_t *file, size_t file_len, uint8_t *head, size_t
 
 /* How much `bmp_read` fills from the same file. A refusal is 17 or 18; the stream is not looked at. */
 bmp_reading_sizes bmp_read_sizes(const uint8_t *file, size_t file_len);
+
+/* Reads the one row whose first byte stands at `start`; of the pixels no byte of another row is looked at. `cells` gets
+ * the row's cells from the left, as `bmp_read` gives them: up to depth 8 as many numbers as the width, above it four
+ * times as many. Answers 0, or the first that applies of 17, 18, 15 and 19, as `bmp_read` does but for this row alone:
+ * 18 where a byte of header, masks, table or of the whole stored row, padding included, lies outside the file; 19 where
+ * the codes from `start` on do not fill the row. Any start inside the file is read as it stands. With a refusal no
+ * number has changed, and numbers past those filled never do. */
+uint32_t bmp_read_row(const uint8_t *file, size_t file_len, uint64_t start, uint32_t *cells, size_t cells_len);
 
 /* The index of a cell whose ends have different shades. */
 #define BMP_HATCH 255
@@ -311,6 +329,7 @@ static inline const char *bmp_refusal_text(uint32_t number) {
     case BMP_NEGATIVE_RESOLUTION: return "a resolution is negative";
     case BMP_NOT_A_SCALE: return "the edges are not 1 to 254 numbers, each above the one before";
     case BMP_NOT_A_QUOTE: return "a cell's low or high is not a number, or the low is above the high";
+    case BMP_STARTS_TOO_SHORT: return "the list of row starts is shorter than the height";
     case BMP_UNKNOWN_FORMAT: return "the format's number is none of those listed";
     default: return "unknown refusal number";
     }

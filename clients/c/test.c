@@ -1,6 +1,6 @@
 /* Tests of the C interface: run by clients/test.sh. M12's file, which mask is which, the texts, the uses of the
- * defaults, files read back, the settings of a screen, and grids painted from prices. The header's layout is checked by
- * compiling it. */
+ * defaults, files read back, the settings of a screen, grids painted from prices, row starts and rows read from there.
+ * The header's layout is checked by compiling it. */
 #include "bmp_writer.h"
 #undef NDEBUG /* the assertions are the test */
 #include <assert.h>
@@ -49,7 +49,7 @@ static void masks(void) {
 static void texts(void) {
     const char *unknown = "unknown refusal number";
     for (uint32_t number = 0; number < 300; number++) {
-        bool listed = number <= 23 || number == 255;
+        bool listed = number <= 24 || number == 255;
         assert((strcmp(bmp_refusal_text(number), unknown) != 0) == listed);
         for (uint32_t other = 0; other < number && listed; other++)
             assert(strcmp(bmp_refusal_text(number), bmp_refusal_text(other)) != 0);
@@ -59,6 +59,7 @@ static void texts(void) {
     assert(strcmp(bmp_refusal_text(BMP_BUFFER_TOO_SHORT), "a lent buffer or list is too short") == 0);
     assert(strcmp(bmp_refusal_text(BMP_LIMIT_TOO_LARGE), "the limit is over 4294967295") == 0);
     assert(strcmp(bmp_refusal_text(BMP_NEGATIVE_RESOLUTION), "a resolution is negative") == 0);
+    assert(strcmp(bmp_refusal_text(BMP_STARTS_TOO_SHORT), "the list of row starts is shorter than the height") == 0);
     assert(strcmp(bmp_refusal_text(BMP_UNKNOWN_FORMAT), "the format's number is none of those listed") == 0);
 }
 
@@ -489,6 +490,160 @@ static void quotes_written(void) {
     assert(memcmp(now.cells + 1, indices, sizeof indices) == 0);
 }
 
+/* A picture of the tests of starts: rows of a long run and of cells that differ, no row like another. */
+enum { COLUMNS = 9, LINES = 4, ENTRIES = LINES + 3 };
+static const uint8_t lines[LINES * COLUMNS] = { 1, 1, 1, 1, 1, 1, 1, 1, 1, 2, 2, 2, 2, 2, 2, 2, 2, 3,
+                                                9, 8, 7, 6, 5, 4, 4, 4, 4, 1, 2, 3, 3, 3, 3, 3, 3, 3 };
+static uint64_t starts[ENTRIES];
+
+/* The call, at an offset and with a list of so many entries. It answers and writes what the call without starts does,
+ * but for 24; entries past the height, and with a refusal all, are as before. */
+static bmp_answer started(bmp_source source, bmp_options options, bmp_settings settings, size_t room, size_t entries) {
+    const size_t offset = 22;
+    memset(out, 0xAA, sizeof out);
+    memset(kept, 0xAA, sizeof kept);
+    memset(starts, 0xAA, sizeof starts);
+    bmp_answer other = bmp_encode_into_with(source, options, settings, lines, sizeof lines, NULL, 0, NULL, 0, NULL, 0, kept,
+                                            room, offset);
+    bmp_answer answer = bmp_encode_with_starts(source, options, settings, lines, sizeof lines, NULL, 0, NULL, 0, NULL, 0,
+                                               out, room, offset, entries ? starts : NULL, entries);
+    if (answer.refusal == BMP_STARTS_TOO_SHORT) {
+        assert(answer.bytes == 0 && answer.format == 0 && entries < source.height);
+        assert(other.refusal == BMP_OK || other.refusal == BMP_STREAM_OVER_BUDGET);
+        memset(kept, 0xAA, sizeof kept);
+    } else {
+        assert(memcmp(&answer, &other, sizeof answer) == 0);
+    }
+    assert(memcmp(out, kept, sizeof out) == 0);
+    for (size_t k = answer.refusal == BMP_OK ? source.height : 0; k < ENTRIES; k++)
+        assert(starts[k] == 0xAAAAAAAAAAAAAAAA);
+    return answer;
+}
+
+/* The file of the last call, and the row of its whole reading that is stored as row k. */
+static const uint32_t *whole_row(const uint8_t *bytes, size_t len, bool top_down, int k) {
+    uint8_t head[54], table[1024];
+    assert(bmp_read(bytes, len, head, 54, table, 1024, shown, CELLS).refusal == BMP_OK);
+    return shown + (top_down ? k : LINES - 1 - k) * COLUMNS;
+}
+
+/* One row, between cells that are not lent. */
+static uint32_t row[1 + COLUMNS + 2];
+
+static uint32_t row_number(const uint8_t *bytes, size_t len, uint64_t start, size_t numbers) {
+    uint32_t before[1 + COLUMNS + 2];
+    memset(row, 0xAA, sizeof row);
+    memset(before, 0xAA, sizeof before);
+    uint32_t number = bmp_read_row(bytes, len, start, row + 1, numbers);
+    if (number == BMP_OK) memcpy(before + 1, row + 1, COLUMNS * sizeof *row);
+    assert(memcmp(row, before, sizeof row) == 0);
+    return number;
+}
+
+/* Plain files from the bottom and from the top, and streams of both kinds: starts from the file's first byte, wherever it
+ * stands in the buffer, and each row from there as in the whole reading, whatever the other rows' bytes are. */
+static void row_starts(void) {
+    /* Bottom first, RLE8 has 01 01 01 02 07 03 00 00, 00 05 09 08 07 06 05 00 04 04 00 00, 08 02 01 03 00 00, 09 01 00 01,
+     * and in RLE4 the block takes two bytes less. */
+    const uint64_t codes[2][LINES] = { { 58, 66, 78, 84 }, { 58, 66, 76, 82 } };
+    for (int k = 0; k < 6; k++) {
+        bmp_source source = { k < 3 ? BMP_PAL8 : BMP_INDEXED4, COLUMNS, LINES, true, false, false, COLUMNS };
+        bmp_options options = BMP_OPTIONS_DEFAULT;
+        options.minimal_palette = true;
+        options.rle = k % 3 != 0;
+        options.top_down = k % 3 == 1;
+        bmp_answer answer = started(source, options, BMP_SETTINGS_DEFAULT, 2000, LINES + k % 3);
+        const uint8_t *bytes = out + 22;
+        bool coded = answer.format == BMP_WRITTEN_RLE8 || answer.format == BMP_WRITTEN_RLE4;
+        assert(answer.refusal == BMP_OK && coded == (k % 3 == 2));
+        for (int line = 0; line < LINES; line++) {
+            assert(starts[line] == (coded ? codes[k / 3][line] : 58 + (k < 3 ? 12 : 8) * (uint64_t)line));
+            const uint32_t *expected = whole_row(bytes, answer.bytes, options.top_down, line);
+            assert(row_number(bytes, answer.bytes, starts[line], COLUMNS) == BMP_OK);
+            assert(memcmp(row + 1, expected, COLUMNS * sizeof *row) == 0);
+            assert(row_number(bytes, answer.bytes, starts[line], COLUMNS + 1) == BMP_OK);
+            assert(row_number(bytes, answer.bytes, starts[line], COLUMNS - 1) == BMP_BUFFER_TOO_SHORT);
+            uint8_t others[2000];
+            uint64_t end = line + 1 < LINES ? starts[line + 1] : answer.bytes;
+            for (uint64_t at = 0; at < answer.bytes; at++)
+                others[at] = (uint8_t)((58 <= at && at < starts[line]) || end <= at ? ~bytes[at] : bytes[at]);
+            assert(row_number(others, answer.bytes, starts[line], COLUMNS) == BMP_OK);
+            assert(memcmp(row + 1, expected, COLUMNS * sizeof *row) == 0);
+            assert(row_number(others, end, starts[line], COLUMNS) == BMP_OK);
+        }
+    }
+}
+
+/* 24 directly after 15 and before 16; all other numbers as without starts. */
+static void starts_refused(void) {
+    const bmp_source source = { BMP_PAL8, COLUMNS, LINES, true, false, false, COLUMNS };
+    const bmp_settings small = { 100, 2835, 2835 }, negative = { 100, -1, 2835 };
+    bmp_options plain = BMP_OPTIONS_DEFAULT;
+    plain.rle = false;
+    for (size_t entries = 0; entries <= ENTRIES; entries++) {
+        bool enough = entries >= LINES;
+        assert(started(source, plain, BMP_SETTINGS_DEFAULT, 2000, entries).refusal == (enough ? BMP_OK : BMP_STARTS_TOO_SHORT));
+        assert(started(source, BMP_OPTIONS_DEFAULT, small, 2000, entries).refusal ==
+               (enough ? BMP_STREAM_OVER_BUDGET : BMP_STARTS_TOO_SHORT));
+        assert(started(source, BMP_OPTIONS_DEFAULT, small, 200, entries).refusal == BMP_BUFFER_TOO_SHORT);
+        assert(started(source, plain, small, 2000, entries).refusal == BMP_FILE_TOO_LARGE);
+        assert(started(source, plain, BMP_SETTINGS_DEFAULT, 10, entries).refusal == BMP_BUFFER_TOO_SHORT);
+        assert(started(source, plain, negative, 2000, entries).refusal == BMP_NEGATIVE_RESOLUTION);
+        bmp_source other = source;
+        other.stride = COLUMNS + 1;
+        assert(started(other, plain, BMP_SETTINGS_DEFAULT, 2000, entries).refusal == BMP_PLANE_TOO_SHORT);
+        other.height = 0x80000000;
+        assert(started(other, plain, BMP_SETTINGS_DEFAULT, 2000, entries).refusal == BMP_DIMENSION_TOO_LARGE);
+        other.format = 10;
+        assert(started(other, plain, BMP_SETTINGS_DEFAULT, 2000, entries).refusal == BMP_UNKNOWN_FORMAT);
+    }
+}
+
+/* The numbers of one row. A stream's start past the end has no code; a plain row lies whole in the file, or is 18. */
+static void rows_refused(void) {
+    const uint8_t faults[6][4] = {
+        { 6, 7, 0, 1 }, { 4, 7, 0, 1 }, { 0, 0, 5, 7 }, { 0, 2, 5, 7 }, { 0, 1, 5, 7 }, { 0, 5, 7, 7 }
+    };
+    const uint64_t beside[8] = { 0, 57, 59, 60, 62, 63, 4294967296 + 58, UINT64_MAX };
+    uint8_t bytes[sizeof m12];
+    uint32_t cells[5];
+    assert(bmp_read_row(m12, sizeof m12, 58, cells, 5) == BMP_OK && bmp_read_row(m12, 60, 58, cells, 5) == BMP_OK);
+    for (int k = 0; k < 5; k++) assert(cells[k] == 7);
+    for (int k = 0; k < 6; k++) {
+        memcpy(bytes, m12, sizeof m12);
+        memcpy(bytes + 58, faults[k], 4);
+        assert(row_number(bytes, sizeof bytes, 58, COLUMNS) == BMP_STREAM_FAULT);
+        assert(row_number(bytes, sizeof bytes, 58, 4) == BMP_BUFFER_TOO_SHORT);
+    }
+    for (int k = 0; k < 8; k++) {
+        assert(row_number(m12, sizeof m12, beside[k], COLUMNS) == BMP_STREAM_FAULT);
+        assert(row_number(m12, sizeof m12, beside[k], 4) == BMP_BUFFER_TOO_SHORT);
+        assert(row_number(m12, 57, beside[k], 4) == BMP_OUTSIDE_FILE);
+    }
+    memcpy(bytes, m12, sizeof m12);
+    bytes[1] = 'N';
+    assert(row_number(bytes, sizeof bytes, UINT64_MAX, 0) == BMP_NEVER_WRITTEN);
+    assert(bmp_read_row(bytes, 2, 0, NULL, 0) == BMP_NEVER_WRITTEN);
+    assert(bmp_read_row(NULL, 0, 0, NULL, 0) == BMP_OUTSIDE_FILE);
+
+    /* Two rows of a cell each and a byte of padding, at 138 and 142, and a profile behind them. */
+    const uint8_t plane[6] = { 1, 2, 3, 4, 5, 6 }, icc[3] = { 'i', 'c', 'c' };
+    const bmp_source source = { BMP_RGB24, 1, 2, false, true, false, 3 };
+    const uint32_t above[4] = { 1, 2, 3, 0 }, below[4] = { 4, 5, 6, 0 };
+    uint8_t file[149];
+    uint64_t two[2];
+    bmp_answer answer = bmp_encode_with_starts(source, BMP_OPTIONS_DEFAULT, BMP_SETTINGS_DEFAULT, plane, 6, NULL, 0, icc, 3,
+                                               NULL, 0, file, sizeof file, 0, two, 2);
+    assert(answer.bytes == 149 && two[0] == 138 && two[1] == 142);
+    assert(bmp_read_row(file, 149, 138, cells, 4) == BMP_OK && memcmp(cells, below, sizeof below) == 0);
+    assert(bmp_read_row(file, 146, 142, cells, 5) == BMP_OK && memcmp(cells, above, sizeof above) == 0);
+    assert(bmp_read_row(file, 142, 138, cells, 4) == BMP_OK && bmp_read_row(file, 149, 0, cells, 4) == BMP_OK);
+    assert(row_number(file, 149, 142, 3) == BMP_BUFFER_TOO_SHORT);
+    assert(row_number(file, 145, 142, 3) == BMP_OUTSIDE_FILE && row_number(file, 141, 138, COLUMNS) == BMP_OUTSIDE_FILE);
+    const uint64_t outside[5] = { 146, 149, 4294967296 + 142, UINT64_MAX - 3, UINT64_MAX };
+    for (int k = 0; k < 5; k++) assert(row_number(file, 149, outside[k], COLUMNS) == BMP_OUTSIDE_FILE);
+}
+
 int main(void) {
     file();
     masks();
@@ -504,5 +659,8 @@ int main(void) {
     quotes();
     quotes_refused();
     quotes_written();
+    row_starts();
+    starts_refused();
+    rows_refused();
     return 0;
 }

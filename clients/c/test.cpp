@@ -106,6 +106,50 @@ static void quotes() {
     assert(std::memcmp(plane, painted, sizeof plane) == 0);
 }
 
+// Two rows with their starts, each read from its own; every number of either call, and what a refusal and the entries past
+// the height leave.
+static void starts() {
+    const bmp_source source = { BMP_PAL8, 5, 2, true, false, false, 5 };
+    bmp_options options = BMP_OPTIONS_DEFAULT;
+    bmp_settings settings = BMP_SETTINGS_DEFAULT;
+    options.minimal_palette = true;
+    const uint8_t plane[10] = { 7, 7, 7, 7, 7, 1, 1, 1, 2, 2 };
+    uint8_t file[100], same[100], was[100];
+    uint64_t list[4] = { 9, 9, 9, 9 };
+    std::memset(file, 0xAA, sizeof file);
+    std::memset(was, 0xAA, sizeof was);
+    assert(bmp_encode_with_starts(source, options, settings, plane, 10, NULL, 0, NULL, 0, NULL, 0, file, 80, 0, NULL, 0)
+               .refusal == BMP_BUFFER_TOO_SHORT);
+    settings.limit = 62;
+    assert(bmp_encode_with_starts(source, options, settings, plane, 10, NULL, 0, NULL, 0, NULL, 0, file, 100, 0, list, 1)
+               .refusal == BMP_STARTS_TOO_SHORT);
+    assert(bmp_encode_with_starts(source, options, settings, plane, 10, NULL, 0, NULL, 0, NULL, 0, file, 100, 0, list, 4)
+               .refusal == BMP_STREAM_OVER_BUDGET);
+    settings = BMP_SETTINGS_DEFAULT;
+    assert(bmp_encode_with_starts(source, options, settings, plane, 10, NULL, 0, NULL, 0, NULL, 0, file, 100, 0, list, 1)
+               .refusal == BMP_STARTS_TOO_SHORT);
+    assert(std::memcmp(file, was, sizeof file) == 0);
+    for (int k = 0; k < 4; k++) assert(list[k] == 9);
+
+    const bmp_answer answer = bmp_encode_with_starts(source, options, settings, plane, 10, NULL, 0, NULL, 0, NULL, 0, file,
+                                                     100, 3, list + 1, 3);
+    std::memset(same, 0xAA, sizeof same);
+    bmp_encode_into(source, options, plane, 10, NULL, 0, NULL, 0, NULL, 0, same, 100, 3);
+    assert(answer.format == BMP_WRITTEN_RLE8 && answer.bytes == 68 && std::memcmp(file, same, sizeof file) == 0);
+    assert(list[0] == 9 && list[1] == 58 && list[2] == 64 && list[3] == 9);
+
+    uint32_t cells[7] = { 9, 9, 9, 9, 9, 9, 9 };
+    assert(bmp_read_row(file + 3, 68, 65, cells + 1, 6) == BMP_STREAM_FAULT);
+    assert(bmp_read_row(file + 3, 68, 58, cells + 1, 4) == BMP_BUFFER_TOO_SHORT);
+    assert(bmp_read_row(file + 3, 57, 58, cells + 1, 4) == BMP_OUTSIDE_FILE);
+    assert(bmp_read_row(file, 68, 58, NULL, 0) == BMP_NEVER_WRITTEN);
+    for (int k = 0; k < 7; k++) assert(cells[k] == 9);
+    for (int stored = 0; stored < 2; stored++) {
+        assert(bmp_read_row(file + 3, 68, list[1 + stored], cells + 1, 6) == BMP_OK && cells[0] == 9 && cells[6] == 9);
+        for (int x = 0; x < 5; x++) assert(cells[1 + x] == plane[5 * (1 - stored) + x]);
+    }
+}
+
 int main() {
     bmp_options options = BMP_OPTIONS_DEFAULT;
     assert(is_default(options) && is_default(several[0]) && is_default(several[1]));
@@ -116,12 +160,14 @@ int main() {
     assert(is_default(options));
 
     assert(std::strcmp(bmp_refusal_text(BMP_ZERO_DIMENSION), "width or height is 0") == 0);
-    assert(std::strcmp(bmp_refusal_text(24), "unknown refusal number") == 0);
+    assert(std::strcmp(bmp_refusal_text(BMP_STARTS_TOO_SHORT), "the list of row starts is shorter than the height") == 0);
+    assert(std::strcmp(bmp_refusal_text(25), "unknown refusal number") == 0);
 
     const bmp_source nothing = { BMP_RGB24, 0, 1, false, false, false, 0 };
     assert(bmp_encoded_size_bound(nothing, BMP_OPTIONS_DEFAULT, NULL, 0, NULL, 0, NULL, 0, NULL, 0).refusal == BMP_ZERO_DIMENSION);
     reading();
     settings();
     quotes();
+    starts();
     return 0;
 }

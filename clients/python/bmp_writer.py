@@ -10,6 +10,11 @@ and `bmp_writer.read(file)` gives the cells back. A grid of prices, `lows` and `
 
     plane = bmp_writer.shade_quotes(edges, lows, highs)
 
+A single row is read from its start, which the writing call can give:
+
+    file, written, starts = bmp_writer.encode_with_starts(plane, 200, 200, palette=palette)
+    bottom = bmp_writer.read_row(file, starts[0])
+
 Any buffer of one-byte items may be lent: bytes, bytearray, memoryview, an array of uint8; and for prices any buffer of doubles.
 A buffer of one dimension says nothing of its shape and needs the width and the height. What could be read in two ways is
 refused: an argument of the wrong type raises TypeError and one that does not fit ValueError, both with the argument's name, and
@@ -37,7 +42,7 @@ else:
     Buffer = Any
 
 __all__ = ["BYTES_PER_PIXEL", "Bitfields", "BmpError", "CalibratedRgb", "EncodeOptions", "FORMATS", "HATCH", "Picture",
-           "REFUSALS", "WRITTEN", "check_masks", "encode", "read", "shade_quotes", "size_bound"]
+           "REFUSALS", "WRITTEN", "check_masks", "encode", "encode_with_starts", "read", "read_row", "shade_quotes", "size_bound"]
 __version__ = "1.0.0"
 
 FORMATS = ("Rgba", "Rgb24", "Bgra", "Bgr24", "Rgb555", "Rgb565", "Pal8", "Indexed4", "Indexed2", "Indexed1")
@@ -70,6 +75,7 @@ REFUSALS = {
     21: "a resolution is negative",
     22: "the edges are not 1 to 254 numbers, each above the one before",
     23: "a cell's low or high is not a number, or the low is above the high",
+    24: "the list of row starts is shorter than the height",
     255: "the format's number is none of those listed",
 }
 
@@ -206,12 +212,16 @@ def _lib() -> ctypes.CDLL:
             library.bmp_encode_into_with.argtypes = [_Source, _Options, _Settings, *slices, ctypes.c_void_p, ctypes.c_size_t,
                                                      ctypes.c_size_t]
             library.bmp_encode_into_with.restype = _Answer
+            library.bmp_encode_with_starts.argtypes = [*library.bmp_encode_into_with.argtypes, ctypes.c_void_p, ctypes.c_size_t]
+            library.bmp_encode_with_starts.restype = _Answer
             library.bmp_check_masks.argtypes = [ctypes.c_uint16] + [ctypes.c_uint32] * 4
             library.bmp_check_masks.restype = ctypes.c_uint32
             library.bmp_read.argtypes = [ctypes.c_char_p, ctypes.c_size_t] + [ctypes.c_void_p, ctypes.c_size_t] * 3
             library.bmp_read.restype = _Reading
             library.bmp_read_sizes.argtypes = [ctypes.c_char_p, ctypes.c_size_t]
             library.bmp_read_sizes.restype = _ReadingSizes
+            library.bmp_read_row.argtypes = [ctypes.c_char_p, ctypes.c_size_t, ctypes.c_uint64, ctypes.c_void_p, ctypes.c_size_t]
+            library.bmp_read_row.restype = ctypes.c_uint32
             library.bmp_shade_quotes.argtypes = [ctypes.c_void_p, ctypes.c_size_t] * 4
             library.bmp_shade_quotes.restype = ctypes.c_uint32
         except (OSError, AttributeError) as error:
@@ -479,6 +489,24 @@ def encode(plane: Buffer, width: Optional[int] = None, height: Optional[int] = N
     return memoryview(out)[:answer.bytes].tobytes(), WRITTEN[answer.format]
 
 
+def encode_with_starts(plane: Buffer, width: Optional[int] = None, height: Optional[int] = None, format: str = "Pal8",
+                       stride: Optional[int] = None, palette: Union[Sequence[Sequence[int]], Buffer, None] = None,
+                       icc: Optional[Buffer] = None, linked_icc: Optional[Buffer] = None,
+                       options: Optional[EncodeOptions] = None, *, palette_rgba: Optional[Buffer] = None,
+                       more_follows: bool = False, limit: int = _MAX_U32, x_pels_per_meter: int = 2835,
+                       y_pels_per_meter: int = 2835) -> Tuple[bytes, str, array.array]:
+    """What `encode` gives for the same arguments, which it describes, and the rows' starts.
+
+    They are an array of the type code 'Q', an entry a stored row: the place in the file of the row's first byte, in a stream the
+    first of its codes. Entry 0 is of the picture's bottom row, or of its top row if top_down is on.
+    """
+    arguments, bound = _planned(plane, width, height, format, stride, palette, icc, linked_icc, options, palette_rgba,
+                                more_follows, limit, x_pels_per_meter, y_pels_per_meter)
+    out, starts = ctypes.create_string_buffer(bound), array.array("Q", bytes(8 * arguments[0].height))
+    answer = _accepted(_lib().bmp_encode_with_starts(*arguments, out, bound, 0, *starts.buffer_info()))
+    return memoryview(out)[:answer.bytes].tobytes(), WRITTEN[answer.format], starts
+
+
 def _unfilled(numbers: int) -> mmap.mmap:
     """Memory for so many numbers. The system gives each page when it is first written to, so that a short stream which asks for
     gigabytes is refused without having them."""
@@ -504,6 +532,29 @@ def read(data: Buffer) -> Picture:
     cells.frombytes(lent)
     profile = file[answer.profile_at:answer.profile_at + answer.profile_bytes]
     return Picture(answer.width, answer.height, answer.depth, head.raw, table.raw, cells, profile)
+
+
+def read_row(data: Buffer, start: int) -> array.array:
+    """The cells of the one row whose first byte stands at `start`, as `read` gives the cells of a row: an array of the type code
+    'I', up to depth 8 an index a cell, above it four numbers. (numpy: numpy.asarray(row).reshape(-1, 4) above depth 8.)
+
+    Of the pixels no byte of another row is looked at, and any start inside the file is read as it stands. The library reads with
+    the interpreter's lock released.
+
+    Raises BmpError with 17, 18 or 19 where the row is refused, each as for the whole file but for this row alone, and MemoryError
+    where there is no memory for the cells.
+    """
+    file, start = _flat("data", data), _whole("start", start, 0, _MAX_U64)
+    # Without cells the answer is 17, 18 or 15; the last says that the head's fields can be relied on.
+    asked = _lib().bmp_read_row(file, len(file), start, None, 0)
+    if asked != 15:
+        raise BmpError(asked)
+    numbers = int.from_bytes(file[18:22], "little") * (1 if file[28] <= 8 else 4)
+    lent = _unfilled(numbers)
+    _allowed(_lib().bmp_read_row(file, len(file), start, ctypes.byref(ctypes.c_char.from_buffer(lent)), numbers))
+    cells = array.array("I")
+    cells.frombytes(lent)
+    return cells
 
 
 def shade_quotes(edges: Buffer, lows: Buffer, highs: Buffer) -> bytearray:

@@ -16,7 +16,7 @@ from concurrent.futures import ThreadPoolExecutor
 
 import bmp_writer
 from bmp_writer import (BYTES_PER_PIXEL, FORMATS, HATCH, BmpError, Bitfields, CalibratedRgb, EncodeOptions, Picture, encode,
-                        shade_quotes, size_bound)
+                        encode_with_starts, read_row, shade_quotes, size_bound)
 
 try:
     import numpy
@@ -65,7 +65,7 @@ def shown(file, width, height):
 
 
 class Case(unittest.TestCase):
-    calls = encode, size_bound
+    calls = encode, encode_with_starts, size_bound
 
     def refused(self, number, *arguments, **named):
         for call in self.calls:
@@ -724,6 +724,123 @@ class Reading(Case):
             file, written = encode(plane, 1000, 1000, palette=GREYS, options=EncodeOptions(rle=rle))
             picture = bmp_writer.read(file)
             self.assertEqual((written, bytes(picture.cells.tolist())), ("Rle8" if rle else "Indexed8", plane))
+
+
+class Rows(Case):
+    """Row starts, and rows read from there."""
+
+    def test_every_row_of_every_file(self):
+        """The file of the call without starts; each start is where a row's bytes begin, and each row is the whole reading's."""
+        grid, masks = Reading.grid, Bitfields(16, (0xF000, 0xF00, 0, 0xF))
+        met = set()
+        for name, size in zip(FORMATS, BYTES_PER_PIXEL):
+            fields = [{}, {"rle": False}, {"top_down": True}, {"minimal_palette": True}, {"calibrated_rgb": Reading.gauges}]
+            if name in ("Rgba", "Bgr24"):
+                fields += [{"bitfields": masks}, {"bitfields": masks, "top_down": True}]
+            for given in [{"icc": b"profile"}, {"limit": 1200, "options": EncodeOptions(minimal_palette=True)},
+                          *({"options": EncodeOptions(**named)} for named in fields)]:
+                arguments = {"plane": grid[:33 // size * size * 7], "width": 33 // size, "height": 7, "format": name,
+                             "palette": GREYS[:2], **given}
+                file, written, starts = encode_with_starts(**arguments)
+                self.assertEqual((file, written), encode(**arguments))
+                self.assertEqual((starts.typecode, len(starts)), ("Q", 7))
+                met.add(written)
+                whole = bmp_writer.read(file)
+                pixels, step = int.from_bytes(file[10:14], "little"), (whole.width * whole.depth + 31) // 32 * 4
+                top_down = file[25] >= 128
+                if written.startswith("Rle"):
+                    self.assertEqual(starts[0], pixels)
+                    for before, start in zip(starts, starts[1:]):
+                        self.assertTrue(start > before and file[start - 2:start] == b"\0\0")
+                else:
+                    self.assertEqual(starts.tolist(), [pixels + k * step for k in range(7)])
+                numbers = len(whole.cells) // 7
+                ends = [*starts[1:], len(file)] if written.startswith("Rle") else [start + step for start in starts]
+                for k, (start, end) in enumerate(zip(starts, ends)):
+                    y = k if top_down else 6 - k
+                    row = whole.cells[y * numbers:(y + 1) * numbers]
+                    self.assertEqual(read_row(file, start), row)
+                    others = bytes(255 - v if pixels <= at < start or end <= at else v for at, v in enumerate(file))
+                    self.assertEqual(read_row(others, start), row)
+                    self.assertEqual(read_row(others[:end], start), row)
+        self.assertTrue({"Rle8", "Rle4", "Indexed8", "Indexed4", "Indexed1", "Rgb24", "AlphaBitfields"} <= met)
+
+    def test_the_specifications_file(self):
+        options = EncodeOptions(minimal_palette=True)
+        file, written, starts = encode_with_starts(b"\7" * 5, 5, 1, palette=[], options=options)
+        self.assertEqual((file, written, starts.tolist()), (M12, "Rle8", [58]))
+        self.assertEqual(read_row(M12, 58), array.array("I", [7] * 5))
+        file, written, starts = encode_with_starts(b"\7" * 4 + b"\1\2\3\4", 4, 2, palette=[], options=options)
+        self.assertEqual((written, starts.tolist()), ("Indexed8", [58, 62]))
+        self.assertEqual((read_row(file, 58).tolist(), read_row(file, 62).tolist()), ([1, 2, 3, 4], [7] * 4))
+
+    def unread(self, number, data, start):
+        with self.assertRaises(BmpError) as caught:
+            read_row(data, start)
+        self.assertEqual(str(caught.exception), f"{number}: {bmp_writer.REFUSALS[number]}")
+
+    def test_refusals(self):
+        for start in (0, 57, 59, 60, 62, 63, 2 ** 32 + 58, 2 ** 64 - 1):
+            self.unread(19, M12, start)
+        for codes in (b"\6\7\0\1", b"\4\7\0\1", b"\0\0\5\7", b"\0\2\0\0\5\7", b"\0\5\7\7", b"\5"):
+            self.unread(19, M12[:58] + codes, 58)
+        for length in range(58):
+            self.unread(18, M12[:length], 58)
+        self.unread(17, b"BN", 2 ** 64 - 1)
+        self.unread(18, b"", 0)
+        # Any start is read as it stands: the mark and the file's size are a cell of three bytes too.
+        file, _, starts = encode_with_starts(b"\1\2\3\4\5\6", 1, 2, "Rgb24", icc=b"profile")
+        self.assertEqual((starts.tolist(), len(file)), ([138, 142], 153))
+        self.assertEqual((read_row(file[:146], 142).tolist(), read_row(file, 0).tolist()), ([1, 2, 3, 0], [file[2], 0x4D, 0x42, 0]))
+        for length, start in ((145, 142), (141, 138), (153, 150), (153, 154), (153, 2 ** 32 + 142), (153, 2 ** 64 - 4), (153, 2 ** 64 - 1)):
+            self.unread(18, file[:length], start)
+        # No memory is needed for a wide row that is refused, if there is any.
+        with self.assertRaises((BmpError, MemoryError)) as caught:
+            read_row(M12[:18] + b"\xff\xff\xff\x7f" + M12[22:], 58)
+        self.assertEqual(getattr(caught.exception, "number", 19), 19)
+
+    def test_the_list(self):
+        """The library's own numbers: 24 after 15 and before 16, and what a refusal leaves."""
+        palette = b"\0" * 4
+        source, plane = bmp_writer._Source(6, 33, 7, True, False, False, 33), Reading.grid
+        raw = bmp_writer._raw_options(None)
+        bound = size_bound(plane, 33, 7, palette=[(0, 0, 0, 0)])
+
+        def number(entries, room=bound, limit=2 ** 32 - 1, kind=6):
+            source.format = kind
+            out, starts = ctypes.create_string_buffer(b"\xaa" * room, room), array.array("Q", [2 ** 64 - 1] * 9)
+            answer = bmp_writer._lib().bmp_encode_with_starts(
+                source, raw, bmp_writer._Settings(limit, 2835, 2835), plane, len(plane), palette, 4, None, 0, None, 0, out, room, 0,
+                starts.buffer_info()[0], entries)
+            filled = 0 if answer.refusal else 7
+            self.assertEqual(starts[filled:].tolist(), [2 ** 64 - 1] * (9 - filled))
+            self.assertTrue(filled or out.raw == b"\xaa" * room)
+            return answer.refusal
+
+        self.assertEqual([number(entries) for entries in range(10)], [24] * 7 + [0] * 3)
+        self.assertEqual([number(entries, limit=100) for entries in (0, 6, 7, 9)], [24, 24, 16, 16])
+        self.assertEqual([number(entries, room=bound - 1) for entries in (0, 6, 7, 9)], [15] * 4)
+        self.assertEqual([number(entries, kind=10) for entries in (0, 6, 7, 9)], [255] * 4)
+        self.assertEqual([number(entries, limit=2 ** 32) for entries in (0, 6, 7, 9)], [20] * 4)
+
+    def test_arguments(self):
+        for start in (-1, 2 ** 64):
+            with self.assertRaisesRegex(ValueError, f"^start: {start} is not in 0 .. 18446744073709551615$"):
+                read_row(M12, start)
+        for start, kind in ((None, "NoneType"), ("58", "str"), (58.0, "float"), (True, "bool")):
+            with self.assertRaisesRegex(TypeError, f"^start: .* is of type {kind}; an int is needed$"):
+                read_row(M12, start)
+        with self.assertRaisesRegex(TypeError, "^data: str given; bytes"):
+            read_row("BM", 0)
+        for kind in (bytearray, memoryview, lambda b: array.array("B", b), lambda b: memoryview(b"x" + b + b"x")[1:63]):
+            self.assertEqual(read_row(kind(M12), 58), array.array("I", [7] * 5))
+
+    def test_threads(self):
+        plane = bytes(v * v // 4000 % 256 for v in range(1000)) * 100
+        file, written, starts = encode_with_starts(plane, 1000, 100, palette=GREYS)
+        with ThreadPoolExecutor(4) as pool:
+            rows = list(pool.map(read_row, [file] * 100, starts))
+        self.assertEqual((written, rows), ("Rle8", [array.array("I", list(plane[:1000]))] * 100))
 
 
 def doubles(*prices):

@@ -1,5 +1,6 @@
 //! A BMP writer whose every byte is proved, for Rust, over its C interface: types and names as the original encoder has them.
-//! `read` takes a file apart again, and `shade_quotes` paints a plane from prices.
+//! `read` takes a file apart again, `read_row` one row of it from a place that `encode_with_starts` gives, and `shade_quotes`
+//! paints a plane from prices.
 //! `build.rs` links `libcapi.a` (`rt staticlib capi`).
 
 /// The layout of the lent plane.
@@ -114,6 +115,7 @@ impl BmpError {
             21 => "a resolution is negative",
             22 => "the edges are not 1 to 254 numbers, each above the one before",
             23 => "a cell's low or high is not a number, or the low is above the high",
+            24 => "the list of row starts is shorter than the height",
             255 => "the format's number is none of those listed",
             _ => "unknown refusal number",
         }
@@ -390,12 +392,18 @@ unsafe extern "C" {
         source: RawSource, options: RawOptions, settings: RawSettings, plane: *const u8, plane_len: usize, palette: *const u8,
         palette_len: usize, icc: *const u8, icc_len: usize, linked_icc: *const u8, linked_icc_len: usize,
     ) -> RawAnswer;
+    fn bmp_encode_with_starts(
+        source: RawSource, options: RawOptions, settings: RawSettings, plane: *const u8, plane_len: usize, palette: *const u8,
+        palette_len: usize, icc: *const u8, icc_len: usize, linked_icc: *const u8, linked_icc_len: usize, out: *mut u8,
+        out_len: usize, offset: usize, starts: *mut u64, starts_len: usize,
+    ) -> RawAnswer;
     fn bmp_check_masks(bpp: u16, red: u32, green: u32, blue: u32, alpha: u32) -> u32;
     fn bmp_read(
         file: *const u8, file_len: usize, head: *mut u8, head_len: usize, table: *mut u8, table_len: usize,
         cells: *mut u32, cells_len: usize,
     ) -> RawReading;
     fn bmp_read_sizes(file: *const u8, file_len: usize) -> RawReadingSizes;
+    fn bmp_read_row(file: *const u8, file_len: usize, start: u64, cells: *mut u32, cells_len: usize) -> u32;
     fn bmp_shade_quotes(
         edges: *const f64, edges_len: usize, lows: *const f64, lows_len: usize, highs: *const f64, highs_len: usize,
         plane: *mut u8, plane_len: usize,
@@ -484,6 +492,51 @@ pub fn encode(src: &EncodeSource<'_>, options: &EncodeOptions) -> Result<(Vec<u8
     Ok((out, format))
 }
 
+/// `encode_into`, which also fills `starts`: entry k is the place in the file, counted from its first byte, of the first byte of
+/// stored row k, in a stream the first of its codes. Row 0 is the picture's bottom row, or its top row if it goes from the top.
+///
+/// 24 where the entries are fewer than the height, tested directly after 15. Entries past the height keep their values, and a
+/// refused call changes neither the list nor the buffer.
+///
+/// ```
+/// use bmp_writer::*;
+/// let plane = [7, 7, 7, 7, 7, 1, 2, 3, 4, 5];
+/// let (format, palette) = (BmpPixelFormat::Pal8, Some(&[][..]));
+/// let src = EncodeSource { format, width: 5, height: 2, stride: 5, plane: &plane, palette, icc: None };
+/// let (mut out, mut starts) = ([0; 2000], [0; 2]);
+/// let (bytes, _) = encode_into_with_starts(&src, &EncodeOptions::new(), &mut out, 0, &mut starts)?;
+/// assert_eq!(read_row(&out[..bytes], starts[1])?, [7, 7, 7, 7, 7]);
+/// # Ok::<(), BmpError>(())
+/// ```
+#[rustfmt::skip]
+pub fn encode_into_with_starts(
+    src: &EncodeSource<'_>, options: &EncodeOptions, out: &mut [u8], offset: usize, starts: &mut [u64],
+) -> Result<(usize, EncodedBmpFormat)> {
+    let (palette, icc) = (src.palette.unwrap_or(&[]), src.icc.unwrap_or(&[]));
+    let linked = options.linked_icc.as_deref().unwrap_or(&[]);
+    // The same, and `out` and `starts` are borrowed alone.
+    let answer = unsafe {
+        bmp_encode_with_starts(
+            raw_source(src, options), raw_options(options), raw_settings(options), src.plane.as_ptr(), src.plane.len(),
+            palette.as_ptr(), palette.len(), icc.as_ptr(), icc.len(), linked.as_ptr(), linked.len(), out.as_mut_ptr(), out.len(),
+            offset, starts.as_mut_ptr(), starts.len(),
+        )
+    };
+    accepted(answer.refusal)?;
+    Ok((answer.bytes as usize, answer.format.try_into()?))
+}
+
+/// The file in a buffer of its own, and the start of each stored row in a lent list.
+#[rustfmt::skip]
+pub fn encode_with_starts(
+    src: &EncodeSource<'_>, options: &EncodeOptions, starts: &mut [u64],
+) -> Result<(Vec<u8>, EncodedBmpFormat)> {
+    let mut out = vec![0; encoded_size_bound(src, options)?];
+    let (bytes, format) = encode_into_with_starts(src, options, &mut out, 0, starts)?;
+    out.truncate(bytes);
+    Ok((out, format))
+}
+
 /// How much a reading call asks for: 17 or 18 where it is refused with that.
 pub fn read_sizes(file: &[u8]) -> Result<ReadingSizes> {
     // The pointer goes with the length of its slice, and the call reads no further.
@@ -534,6 +587,32 @@ pub fn read(file: &[u8]) -> Result<Picture<'_>> {
     unsafe { cells.set_len(numbers) };
     let Reading { width, height, depth, profile } = reading;
     Ok(Picture { width, height, depth, head, table, cells, profile })
+}
+
+/// Reads the one row whose first byte stands at `start` into lent cells, in the numbers of `Picture`: as many as the width up to
+/// depth 8, above it four times as many. Of the pixels no byte of another row is looked at, and any start inside the file is read
+/// as it stands. 17, 18, 15 or 19, in this order, where it is refused, as for the whole file but for this row alone. A refused call
+/// changes no cell, and cells past those filled stay.
+pub fn read_row_into(file: &[u8], start: u64, cells: &mut [u32]) -> Result<()> {
+    // Each pointer goes with the length of its slice, and `cells` is borrowed alone.
+    accepted(unsafe { bmp_read_row(file.as_ptr(), file.len(), start, cells.as_mut_ptr(), cells.len()) })
+}
+
+/// The row in cells of its own: 17, 18 or 19 where it is refused, and `OutOfMemory` where the cells cannot be had.
+pub fn read_row(file: &[u8], start: u64) -> Result<Vec<u32>> {
+    // Without cells the call is refused with 17, 18 or 15; the last says that the head's fields can be relied on.
+    match read_row_into(file, start, &mut []) {
+        Err(error) if error.number == 15 => {}
+        other => return other.map(|()| Vec::new()),
+    }
+    let field = |at: usize| u32::from_le_bytes([file[at], file[at + 1], file[at + 2], file[at + 3]]) as usize;
+    let numbers = if file[28] <= 8 { field(18) } else { 4 * field(18) };
+    let mut cells = Vec::new();
+    cells.try_reserve_exact(numbers).map_err(|_| BmpError { kind: BmpErrorKind::OutOfMemory, number: 15 })?;
+    // As many are reserved; the call reads none of them, and an accepted one has filled them all.
+    accepted(unsafe { bmp_read_row(file.as_ptr(), file.len(), start, cells.as_mut_ptr(), numbers) })?;
+    unsafe { cells.set_len(numbers) };
+    Ok(cells)
 }
 
 /// The index of a cell whose ends have different shades.

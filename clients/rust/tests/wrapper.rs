@@ -61,13 +61,13 @@ fn refusals() {
 #[test]
 fn the_texts_are_the_headers() {
     let there: Vec<&str> = HEADER.split("return \"").skip(1).map(|rest| rest.split('"').next().unwrap()).collect();
-    let here: Vec<&str> = (0..=23).chain([255, 24]).map(|number| BmpError::refused(number).text()).collect();
+    let here: Vec<&str> = (0..=24).chain([255, 25]).map(|number| BmpError::refused(number).text()).collect();
     assert_eq!(here, there);
 }
 
 #[test]
 fn unknown_numbers_print_as_such() {
-    assert_eq!(BmpError::refused(24).to_string(), "24: unknown refusal number");
+    assert_eq!(BmpError::refused(25).to_string(), "25: unknown refusal number");
     assert_eq!(BmpError::refused(u32::MAX).to_string(), "4294967295: unknown refusal number");
     assert_eq!(BmpError::refused(255).to_string(), "255: the format's number is none of those listed");
     assert_eq!(EncodedBmpFormat::try_from(11), Ok(EncodedBmpFormat::AlphaBitfields));
@@ -480,6 +480,164 @@ fn quotes_read_back() {
     let cells: Vec<u32> = plane.iter().map(|index| u32::from(*index)).collect();
     assert_eq!(read(&file).unwrap().cells, cells);
     assert!(plane.contains(&HATCH) && plane.contains(&0) && plane.contains(&20));
+}
+
+/// Rows with a long run, single cells and cells that differ, each row another one, so that a stream is used where one can be.
+fn expiries() -> Vec<u8> {
+    let index = |x: u32, y: u32| if x < 25 { 29 * y + x / 20 + x / 21 } else { 7 * x + y };
+    (0..33 * 7).map(|k| index(k % 33, k / 33) as u8).collect()
+}
+
+/// Every format, plain and as a stream, from the bottom and from the top, at an offset: the same file as without starts, each
+/// start where the row's bytes begin, and each row read from there as in the whole reading.
+#[test]
+fn starts() {
+    let plane = expiries();
+    let masks = BmpBitfields { bpp: 16, r: 0xF000, g: 0xF00, b: 0, a: 0xF };
+    for (format, size) in [
+        (BmpPixelFormat::Rgba, 4),
+        (BmpPixelFormat::Rgb24, 3),
+        (BmpPixelFormat::Bgra, 4),
+        (BmpPixelFormat::Bgr24, 3),
+        (BmpPixelFormat::Rgb555, 2),
+        (BmpPixelFormat::Rgb565, 2),
+        (BmpPixelFormat::Pal8, 1),
+        (BmpPixelFormat::Indexed4, 1),
+        (BmpPixelFormat::Indexed2, 1),
+        (BmpPixelFormat::Indexed1, 1),
+    ] {
+        let palette = (size == 1).then_some(&plane[..8]);
+        let src = EncodeSource { height: 7, palette, icc: Some(b"profile"), ..picture(format, 33 / size, 33, &plane) };
+        let default = EncodeOptions::new().with_embed_icc(false);
+        let mut several = vec![
+            default.clone(),
+            default.clone().with_rle(false),
+            default.clone().with_top_down(true),
+            default.clone().with_embed_icc(true),
+            default.clone().with_minimal_palette(true).with_limit(1200),
+        ];
+        if matches!(format, BmpPixelFormat::Rgba | BmpPixelFormat::Bgr24) {
+            several.push(default.clone().with_bitfields(masks));
+        }
+        for options in several {
+            let (file, written) = encode(&src, &options).unwrap();
+            let (mut out, mut list) = (vec![0xAA; 5 + encoded_size_bound(&src, &options).unwrap() + 3], [u64::MAX; 9]);
+            let answer = encode_into_with_starts(&src, &options, &mut out, 5, &mut list);
+            assert_eq!((answer, &out[5..][..file.len()]), (Ok((file.len(), written)), &file[..]));
+            assert!(out[..5].iter().chain(&out[5 + file.len()..]).all(|byte| *byte == 0xAA));
+            assert_eq!(list[7..], [u64::MAX; 2]);
+            let mut exact = [0; 7];
+            assert_eq!((encode_with_starts(&src, &options, &mut exact), &exact[..]), (Ok((file.clone(), written)), &list[..7]));
+
+            let whole = read(&file).unwrap();
+            let coded = matches!(written, EncodedBmpFormat::Rle8 | EncodedBmpFormat::Rle4);
+            let pixels = u64::from(u32::from_le_bytes(file[10..14].try_into().unwrap()));
+            let row_bytes = (u64::from(src.width) * u64::from(whole.depth)).div_ceil(32) * 4;
+            let numbers = whole.cells.len() / 7;
+            for (k, start) in exact.into_iter().enumerate() {
+                if coded {
+                    // Behind the codes of the row before stands its end.
+                    let follows = k > 0 && start > exact[k - 1] && file[..start as usize].ends_with(&[0, 0]);
+                    assert!(if k == 0 { start == pixels } else { follows });
+                } else {
+                    assert_eq!(start, pixels + row_bytes * k as u64);
+                }
+                let y = if options.top_down { k } else { 6 - k };
+                let row = &whole.cells[y * numbers..][..numbers];
+                assert_eq!(read_row(&file, start).unwrap(), row);
+                let mut lent = vec![0xAAAA_AAAA; numbers + 3];
+                assert_eq!(read_row_into(&file, start, &mut lent[1..numbers + 2]), Ok(()));
+                assert_eq!((&lent[1..=numbers], [lent[0], lent[numbers + 1], lent[numbers + 2]]), (row, [0xAAAA_AAAA; 3]));
+                // No byte of another row or of a profile is looked at.
+                let (head, end) = (pixels as usize, if coded { exact.get(k + 1).copied() } else { Some(start + row_bytes) });
+                let end = end.unwrap_or(file.len() as u64) as usize;
+                let mut others = file.clone();
+                others[head..start as usize].iter_mut().for_each(|byte| *byte = !*byte);
+                others[end..].iter_mut().for_each(|byte| *byte = !*byte);
+                assert_eq!(read_row(&others, start).unwrap(), row);
+                assert_eq!(read_row(&others[..end], start).unwrap(), row);
+            }
+        }
+    }
+}
+
+/// 24 stands between 15 and 16, and no refusal changes the list or the buffer.
+#[test]
+fn starts_that_are_refused() {
+    let plane = expiries();
+    let src = EncodeSource { height: 7, palette: Some(&[]), ..picture(BmpPixelFormat::Pal8, 33, 33, &plane) };
+    let number = |src: &EncodeSource, options: &EncodeOptions, room: usize, entries: usize| {
+        let (mut out, mut list) = (vec![0xAA; room], [u64::MAX; 8]);
+        let answer = encode_into_with_starts(src, options, &mut out, 0, &mut list[..entries]);
+        let kept = out.iter().all(|byte| *byte == 0xAA) && list == [u64::MAX; 8];
+        answer.map_or_else(|error| if kept { error.number } else { u32::MAX }, |_| 0)
+    };
+    let default = EncodeOptions::new();
+    let bound = encoded_size_bound(&src, &default).unwrap();
+    assert_eq!((number(&src, &default, bound, 7), number(&src, &default, bound, 8)), (0, 0));
+    for entries in 0..7 {
+        assert_eq!(number(&src, &default, bound, entries), 24);
+        assert_eq!(number(&src, &default, bound - 1, entries), 15);
+        assert_eq!(number(&src, &default.clone().with_top_down(true), bound, entries), 24);
+        assert_eq!(number(&src, &default.clone().with_limit(100), bound, entries), 24);
+        assert_eq!(number(&src, &default.clone().with_limit(100).with_rle(false), bound, entries), 14);
+        assert_eq!(number(&src, &default.clone().with_limit(1 << 32), bound, entries), 20);
+        assert_eq!(number(&src, &default.clone().with_x_pels_per_meter(-1), bound, entries), 21);
+        assert_eq!(number(&EncodeSource { stride: 34, ..src }, &default, bound, entries), 12);
+        assert_eq!(number(&EncodeSource { palette: None, ..src }, &default, bound, entries), 3);
+        assert_eq!(number(&EncodeSource { width: 0, ..src }, &default, bound, entries), 1);
+    }
+    assert_eq!((number(&src, &default.clone().with_limit(100), bound, 7), number(&src, &default, bound - 1, 7)), (16, 15));
+    assert_eq!(number(&EncodeSource { stride: 34, ..src }, &default, bound, 7), 12);
+    let error = encode_with_starts(&src, &default, &mut [0; 6]).unwrap_err();
+    assert_eq!(error.to_string(), "24: the list of row starts is shorter than the height");
+}
+
+/// 17, 18, 15 and 19 of one row, and cells that stay.
+#[test]
+fn rows_that_are_refused() {
+    let number = |file: &[u8], start, cells: usize| {
+        let mut lent = [0xAAAA_AAAA; 32];
+        let answer = read_row_into(file, start, &mut lent[1..=cells]);
+        assert!(answer.is_ok() || lent == [0xAAAA_AAAA; 32]);
+        answer.map_or_else(|error| error.number, |()| 0)
+    };
+    let changed = |at: usize, bytes: &[u8]| {
+        let mut file = M12;
+        file[at..at + bytes.len()].copy_from_slice(bytes);
+        file
+    };
+    // A stream: its row is at 58, and a start past the end has no code.
+    assert_eq!((number(&M12, 58, 5), number(&M12, 58, 6), number(&M12[..60], 58, 5)), (0, 0, 0));
+    assert_eq!(read_row(&M12, 58), Ok(vec![7; 5]));
+    for start in [0, 57, 59, 60, 61, 62, 63, (1 << 32) + 58, u64::MAX] {
+        assert_eq!((number(&M12, start, 5), number(&M12, start, 4)), (19, 15), "{start}");
+        assert_eq!(read_row(&M12, start).unwrap_err(), BmpError::refused(19));
+    }
+    for codes in [[6, 7, 0, 1], [4, 7, 0, 1], [0, 0, 5, 7], [0, 2, 5, 7], [0, 5, 7, 7]] {
+        assert_eq!((number(&changed(58, &codes), 58, 5), number(&changed(58, &codes), 58, 4)), (19, 15));
+    }
+    // Any start is read as it stands, here one inside the header.
+    assert_eq!((number(&changed(50, &[5, 9]), 50, 5), read_row(&changed(50, &[5, 9]), 50)), (0, Ok(vec![9; 5])));
+    for len in 0..58 {
+        assert_eq!((number(&M12[..len], 58, 5), number(&M12[..len], u64::MAX, 0)), (18, 18));
+    }
+    assert_eq!((number(&changed(1, b"N"), u64::MAX, 0), number(b"BN", 0, 0), number(b"", 0, 0)), (17, 17, 18));
+
+    // Plain rows of 3 bytes and one of padding: the whole stored row is needed.
+    let src = EncodeSource { height: 2, ..picture(BmpPixelFormat::Rgb24, 1, 3, &[1, 2, 3, 4, 5, 6]) };
+    let mut list = [0; 2];
+    let (file, _) = encode_with_starts(&src, &EncodeOptions::new(), &mut list).unwrap();
+    assert_eq!((list, file.len()), ([54, 58], 62));
+    assert_eq!((read_row(&file, 54), read_row(&file, 58)), (Ok(vec![4, 5, 6, 0]), Ok(vec![1, 2, 3, 0])));
+    for start in [59, 62, 63, (1 << 32) + 58, u64::MAX - 3, u64::MAX] {
+        assert_eq!((number(&file, start, 4), number(&file, start, 3)), (18, 18));
+    }
+    assert_eq!((number(&file[..61], 58, 4), number(&file[..61], 54, 4), number(&file, 58, 3), number(&file, 0, 4)), (18, 0, 15, 0));
+    assert_eq!(read_row(&file, 0), Ok(vec![u32::from(file[2]), 0x4D, 0x42, 0]));
+    // A wide row whose cells cannot be had, or are had and not filled.
+    let error = read_row(&changed(18, &[0xFF, 0xFF, 0xFF, 0x7F]), 58).unwrap_err();
+    assert!(error.number == 19 || error.kind == BmpErrorKind::OutOfMemory);
 }
 
 /// VERSION, the header and Cargo.toml say the same.
