@@ -8,6 +8,7 @@ use crate::original::{self, Original, WRITTEN};
 use crate::port;
 use crate::random::Random;
 use crate::rule;
+use crate::starts;
 use oxideav_bmp::encoder::DifferentialSizes;
 
 /// What has been seen so far.
@@ -57,12 +58,12 @@ pub fn pattern(len: usize, salt: u8) -> Vec<u8> {
     (0..len).map(|k| (k as u8).wrapping_mul(29) ^ (k >> 8) as u8 ^ salt).collect()
 }
 
-fn refused(number: u32) -> port::Answer {
+pub fn refused(number: u32) -> port::Answer {
     port::Answer { bytes: 0, refusal: number, format: 0 }
 }
 
 /// Notes what is not equal on two sides.
-fn differ<T: PartialEq + std::fmt::Debug>(notes: &mut Vec<String>, what: &str, sides: [&str; 2], one: T, other: T) {
+pub fn differ<T: PartialEq + std::fmt::Debug>(notes: &mut Vec<String>, what: &str, sides: [&str; 2], one: T, other: T) {
     if one != other {
         notes.push(format!("{what}: {} {one:?}, {} {other:?}", sides[0], sides[1]));
     }
@@ -189,7 +190,7 @@ pub fn check_masks(bpp: u16, masks: [u32; 4], notes: &mut Vec<String>) {
     differ(notes, "mask check", BOTH, original::check_masks(bpp, masks), port::check_masks(bpp, masks));
 }
 
-fn first_different(a: &[u8], b: &[u8]) -> Option<usize> {
+pub fn first_different(a: &[u8], b: &[u8]) -> Option<usize> {
     if a == b { None } else { a.iter().zip(b).position(|(x, y)| x != y) }
 }
 
@@ -201,13 +202,14 @@ fn check_append(original: &Original<'_>, before: &[u8], file: Result<&[u8], u32>
     assert!(appended[..before.len()] == *before && appended[before.len()..] == *file.unwrap_or(&[]));
 }
 
-/// The writing call's answer and the whole buffer.
+/// The writing call's answer and the whole buffer, and the same with starts.
 fn check_write(
     case: &Case,
     zeros: &[u8],
     original: &Original<'_>,
     bound: Result<u64, u32>,
     stream: Option<u64>,
+    counts: &mut Counts,
     notes: &mut Vec<String>,
 ) -> (Answer, Agreed) {
     let mut file = original.encode();
@@ -215,8 +217,8 @@ fn check_write(
         check_outcome(case, &file, stream, notes);
     }
     let len = bound.map_or(3 * case.slack, |b| case.offset + b as usize + case.slack);
-    let mut buffer = pattern(len, case.salt);
-    let mut expected = buffer.clone();
+    let before = pattern(len, case.salt);
+    let (mut buffer, mut expected) = (before.clone(), before.clone());
     if case.offset > 0 && case.offset <= len {
         check_append(original, &expected[..case.offset], file.as_ref().map(|f| f.1.as_slice()).map_err(|e| *e));
     }
@@ -235,16 +237,19 @@ fn check_write(
     if let Some(at) = first_different(&expected, &buffer) {
         notes.push(format!("buffer byte {at}: original {:#04x}, port {:#04x}", expected[at], buffer[at]));
     }
+    starts::check(case, zeros, &before, &expected, expected_answer, counts, notes);
     (answer, made)
 }
 
 /// The writing call on a buffer that lacks a byte or more: the paper's 15, which says that nothing before it applies.
-fn check_short_buffer(case: &Case, zeros: &[u8], bound: u64, notes: &mut Vec<String>) {
+fn check_short_buffer(case: &Case, zeros: &[u8], bound: u64, counts: &mut Counts, notes: &mut Vec<String>) {
     let len = case.offset + (bound - 1).min(64) as usize;
     let mut buffer = pattern(len, case.salt);
     let given = write(case, zeros, &mut buffer, notes);
     differ(notes, "writing call in a short buffer", RULE_AND_PORT, refused(15), given);
-    differ(notes, "buffer kept", RULE_AND_PORT, true, buffer == pattern(len, case.salt));
+    let before = pattern(len, case.salt);
+    differ(notes, "buffer kept", RULE_AND_PORT, true, buffer == before);
+    starts::check(case, zeros, &before, &before, refused(15), counts, notes);
 }
 
 /// Both sides on one case; the inputs must come out unchanged.
@@ -264,10 +269,10 @@ pub fn compare(case: &Case, zeros: &[u8], report: &mut Report) -> Answer {
         report.counts.add_other("mask checks");
     }
     let answer = if let (true, Ok(bound)) = (case.is_large(), bound) {
-        check_short_buffer(case, zeros, bound, &mut notes);
+        check_short_buffer(case, zeros, bound, &mut report.counts, &mut notes);
         Answer::BoundOnly
     } else {
-        let (answer, made) = check_write(case, zeros, &original, bound, stream, &mut notes);
+        let (answer, made) = check_write(case, zeros, &original, bound, stream, &mut report.counts, &mut notes);
         if made.image_size {
             report.counts.add_other("image sizes filled in");
         }
@@ -350,13 +355,15 @@ pub fn port_alone(case: &Case, random: &mut Random, report: &mut Report) {
     port_refuses(&copy, &[], what, number, len, report);
 }
 
-/// The number from both calls of the port, of which 15 is the writing call's own, and an unchanged buffer.
+/// The number from the calls of the port, of which 15 is the writing call's own, and an unchanged buffer.
 fn port_refuses(case: &Case, zeros: &[u8], what: &'static str, number: u32, len: usize, report: &mut Report) {
     let mut buffer = pattern(len, case.salt);
     let mut notes = Vec::new();
     let given = write(case, zeros, &mut buffer, &mut notes);
     differ(&mut notes, "writing call", RULE_AND_PORT, refused(number), given);
-    differ(&mut notes, "buffer kept", RULE_AND_PORT, true, buffer == pattern(len, case.salt));
+    let before = pattern(len, case.salt);
+    differ(&mut notes, "buffer kept", RULE_AND_PORT, true, buffer == before);
+    starts::check(case, zeros, &before, &before, refused(number), &mut report.counts, &mut notes);
     if number != 15 {
         let given = query(case, zeros, &mut notes);
         differ(&mut notes, "size query", RULE_AND_PORT, refused(number), given);

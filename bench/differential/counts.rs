@@ -69,7 +69,7 @@ fn exists(format: u32, mode: Mode, answer: Answer) -> bool {
 }
 
 /// Checks beside the table that must have been met.
-const OTHERS: [&str; 32] = [
+const OTHERS: [&str; 42] = [
     "at a lower limit, 14",
     "at a lower limit, 14: plain file a byte over",
     "at a lower limit, 16, Indexed4",
@@ -102,6 +102,16 @@ const OTHERS: [&str; 32] = [
     "port alone, 2: width",
     "port alone, 4: palette bytes",
     "resolutions set",
+    "with starts, 24 before 16",
+    "with starts, 24 where a file would be written",
+    "with starts, a list too short and a number before 24",
+    "with starts, list kept on a refusal",
+    "with starts, rows read with all other bytes changed, and at the file's end",
+    "with starts, rows read, RLE4",
+    "with starts, rows read, RLE8",
+    "with starts, rows read, plain from the bottom",
+    "with starts, rows read, plain from the top",
+    "with starts, starts compared",
 ];
 
 pub struct Counts {
@@ -128,7 +138,11 @@ impl Counts {
     }
 
     pub fn add_other(&mut self, what: &'static str) {
-        *self.others.entry(what).or_default() += 1;
+        self.add_others(what, 1);
+    }
+
+    pub fn add_others(&mut self, what: &'static str, count: u64) {
+        *self.others.entry(what).or_default() += count;
     }
 
     pub fn total(&self) -> u64 {

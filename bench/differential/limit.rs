@@ -1,5 +1,5 @@
 //! The true limit of 4,294,967,295 bytes, on sparse planes. The writing calls here are run on both sides, the port's by
-//! both functions where the settings are the default ones.
+//! both functions where the settings are the default ones, and with starts.
 
 use crate::agreed::agreed;
 use crate::case::{Case, INDEXED4, PAL8, Plane};
@@ -10,6 +10,7 @@ use crate::original::{Original, WRITTEN};
 use crate::port;
 use crate::rule;
 use crate::sparse::Sparse;
+use crate::starts;
 use std::time::Instant;
 
 const FILL: u8 = 0xA5;
@@ -126,21 +127,55 @@ fn available() -> u64 {
     kib * 1024
 }
 
+/// A call of the port on the case and a buffer.
+type Call<'a> = &'a mut dyn FnMut(&mut [u8]) -> port::Answer;
+
 /// What the port does to a buffer of the bound, filled before the call: its answer and whether every byte is right.
-fn port_writes(case: &Case, plane: &[u8], bound: u64, file: &[u8], settings: bool) -> (port::Answer, bool) {
+fn port_writes(case: &Case, bound: u64, file: &[u8], call: Call<'_>) -> (port::Answer, bool) {
     let mut memory = Sparse::new(case.offset + bound as usize + case.slack);
     let buffer = memory.bytes_mut();
     buffer.fill(FILL);
-    let (source, options, lent) = (case.source, case.options, case.lent(plane));
-    let given = if settings {
-        port::encode_into_with(source, options, case.settings, lent, buffer, case.offset)
-    } else {
-        port::encode_into(source, options, lent, buffer, case.offset)
-    };
+    let given = call(buffer);
     let (before, rest) = buffer.split_at(case.offset);
     let (inside, after) = rest.split_at(file.len());
     let kept = |bytes: &[u8]| bytes.iter().all(|b| *b == FILL);
     (given, kept(before) && inside == file && kept(after))
+}
+
+/// The same with a list of starts, of which the entry behind the last row stays; and 24 with one entry less.
+fn with_starts(expected: &Expected, plane: &[u8], bound: u64, file: &[u8], wanted: port::Answer, report: &mut Report) {
+    let case = &expected.case;
+    let height = case.source.height as usize;
+    // The list of a refused call is not written to.
+    let list = if wanted.refusal == 0 { 8 * height as u64 } else { 0 };
+    if list + bound + GIB > available() {
+        println!("  NOT RUN with starts, a list of {} GiB: {}", list.div_ceil(GIB), expected.what);
+        return;
+    }
+    // Zeros, which are no row's place, take no room before they are written.
+    let mut list = vec![0; height + 1];
+    let mut notes = Vec::new();
+    let call = |buffer: &mut [u8], list: &mut [u64]| {
+        let (source, options, lent) = (case.source, case.options, case.lent(plane));
+        port::encode_with_starts(source, options, case.settings, lent, buffer, case.offset, list)
+    };
+    let short = port_writes(case, bound, &[], &mut |buffer| call(buffer, &mut list[..height - 1]));
+    if short != (port::Answer { bytes: 0, refusal: 24, format: 0 }, true) || list.iter().any(|start| *start != 0) {
+        notes.push(format!("with a list too short, port {short:?}"));
+    }
+    let (given, right) = port_writes(case, bound, file, &mut |buffer| call(buffer, &mut list));
+    if given != wanted || !right || list[height] != 0 {
+        notes.push(format!("original {wanted:?}, port with starts {given:?}, buffer right: {right}"));
+    }
+    if wanted.refusal == 0 {
+        starts::check_file(case, plane, file, &list[..height], &mut report.counts, &mut notes);
+    } else if list.iter().any(|start| *start != 0) {
+        notes.push("the list of a refused call has changed".into());
+    }
+    if !notes.is_empty() {
+        let text = format!("{}: {}\n  {}", expected.what, notes.join("\n  "), case.describe());
+        report.difference(case.plane_len() as u64, text);
+    }
 }
 
 /// Both sides on one case, and the paper's answer.
@@ -163,17 +198,22 @@ fn compare_large(expected: &Expected, plane: &[u8], report: &mut Report) {
         if !settings && !case.has_default_settings() {
             continue;
         }
-        let (given, right) = port_writes(case, plane, bound, &file, settings);
+        let (source, options, lent) = (case.source, case.options, case.lent(plane));
+        let (given, right) = port_writes(case, bound, &file, &mut |buffer| match settings {
+            true => port::encode_into_with(source, options, case.settings, lent, buffer, case.offset),
+            false => port::encode_into(source, options, lent, buffer, case.offset),
+        });
         let query = if settings {
-            port::size_bound_with(case.source, case.options, case.settings, case.lent(plane))
+            port::size_bound_with(source, options, case.settings, lent)
         } else {
-            port::size_bound(case.source, case.options, case.lent(plane))
+            port::size_bound(source, options, lent)
         };
         if given != wanted || !right || query.bytes != bound || query.refusal != 0 || by_rule != Ok(bound) || !paper {
             let sides = format!("original {wanted:?} bound {bound}, port {given:?} {query:?}, buffer right: {right}");
             report.difference(case.plane_len() as u64, format!("{}: {sides}\n  {}", expected.what, case.describe()));
         }
     }
+    with_starts(expected, plane, bound, &file, wanted, report);
 }
 
 fn one(expected: &Expected, plane: &mut Sparse, report: &mut Report) {

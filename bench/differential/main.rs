@@ -10,8 +10,10 @@ mod limit;
 mod original;
 mod port;
 mod random;
+mod row;
 mod rule;
 mod sparse;
+mod starts;
 
 use compare::Report;
 use counts::Answer;

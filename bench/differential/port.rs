@@ -120,7 +120,26 @@ unsafe extern "C" {
         linked_icc: *const u8,
         linked_icc_len: usize,
     ) -> Answer;
+    fn bmp_encode_with_starts(
+        source: Source,
+        options: Options,
+        settings: Settings,
+        plane: *const u8,
+        plane_len: usize,
+        palette: *const u8,
+        palette_len: usize,
+        icc: *const u8,
+        icc_len: usize,
+        linked_icc: *const u8,
+        linked_icc_len: usize,
+        out: *mut u8,
+        out_len: usize,
+        offset: usize,
+        starts: *mut u64,
+        starts_len: usize,
+    ) -> Answer;
     fn bmp_check_masks(bpp: u16, red: u32, green: u32, blue: u32, alpha: u32) -> u32;
+    fn bmp_read_row(file: *const u8, file_len: usize, start: u64, cells: *mut u32, cells_len: usize) -> u32;
 }
 
 /// NULL for an empty slice: the interface allows it.
@@ -128,9 +147,12 @@ fn start(bytes: &[u8]) -> *const u8 {
     if bytes.is_empty() { std::ptr::null() } else { bytes.as_ptr() }
 }
 
+fn start_mut<T>(values: &mut [T]) -> *mut T {
+    if values.is_empty() { std::ptr::null_mut() } else { values.as_mut_ptr() }
+}
+
 pub fn encode_into(source: Source, options: Options, lent: Lent<'_>, out: &mut [u8], offset: usize) -> Answer {
     let Lent { plane, palette, icc, linked_icc } = lent;
-    let target = if out.is_empty() { std::ptr::null_mut() } else { out.as_mut_ptr() };
     unsafe {
         bmp_encode_into(
             source,
@@ -143,7 +165,7 @@ pub fn encode_into(source: Source, options: Options, lent: Lent<'_>, out: &mut [
             icc.len(),
             start(linked_icc),
             linked_icc.len(),
-            target,
+            start_mut(out),
             out.len(),
             offset,
         )
@@ -159,7 +181,6 @@ pub fn encode_into_with(
     offset: usize,
 ) -> Answer {
     let Lent { plane, palette, icc, linked_icc } = lent;
-    let target = if out.is_empty() { std::ptr::null_mut() } else { out.as_mut_ptr() };
     unsafe {
         bmp_encode_into_with(
             source,
@@ -173,11 +194,48 @@ pub fn encode_into_with(
             icc.len(),
             start(linked_icc),
             linked_icc.len(),
-            target,
+            start_mut(out),
             out.len(),
             offset,
         )
     }
+}
+
+pub fn encode_with_starts(
+    source: Source,
+    options: Options,
+    settings: Settings,
+    lent: Lent<'_>,
+    out: &mut [u8],
+    offset: usize,
+    starts: &mut [u64],
+) -> Answer {
+    let Lent { plane, palette, icc, linked_icc } = lent;
+    unsafe {
+        bmp_encode_with_starts(
+            source,
+            options,
+            settings,
+            start(plane),
+            plane.len(),
+            start(palette),
+            palette.len(),
+            start(icc),
+            icc.len(),
+            start(linked_icc),
+            linked_icc.len(),
+            start_mut(out),
+            out.len(),
+            offset,
+            start_mut(starts),
+            starts.len(),
+        )
+    }
+}
+
+/// 0, or the number.
+pub fn read_row(file: &[u8], at: u64, cells: &mut [u32]) -> u32 {
+    unsafe { bmp_read_row(start(file), file.len(), at, start_mut(cells), cells.len()) }
 }
 
 pub fn size_bound(source: Source, options: Options, lent: Lent<'_>) -> Answer {

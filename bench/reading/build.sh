@@ -1,6 +1,6 @@
 #!/usr/bin/env bash
 # bash bench/reading/build.sh: builds the damage driver and the benchmark against target/staticlib/libcapi.a.
-# OUT is where they go, target/reading if it is not set. With STANDIN=1 the two reading functions are the model's, in a
+# OUT is where they go, target/reading if it is not set. With STANDIN=1 the reading functions are the model's, in a
 # library of their own, $OUT/libstandin.a (/tmp/libstandin.a if OUT is not set); the writer is still libcapi.a's.
 set -euo pipefail
 here=$(cd "$(dirname "$0")" && pwd)
@@ -14,8 +14,8 @@ mkdir -p "$build"
 link=()
 if [ -n "${STANDIN:-}" ]; then
     place=${OUT:-/tmp}
-    bash "$here/../standin.sh" "$here/standin.rs" "$place/libstandin.a" bmp_read bmp_read_sizes
-    # The library may already have the two names; the first one that is linked counts.
+    bash "$here/../standin.sh" "$here/standin.rs" "$place/libstandin.a" bmp_read bmp_read_sizes bmp_read_row
+    # The library may already have the names; the first one that is linked counts.
     link=(-L native="$place" -l static=standin -C link-arg=-Wl,--allow-multiple-definition)
 fi
 if [ ! -f "$library/libcapi.a" ]; then

@@ -1,32 +1,44 @@
-//! One file through the library and the model.
+//! One file through the library and the model, and a row of it.
 
 use crate::fence::{self, Fence};
 use crate::model::{self, Reading, Sizes};
 use crate::pictures::Written;
 use crate::random::Random;
-use crate::{hand, reader};
+use crate::{hand, reader, row};
 use std::collections::BTreeMap;
 use std::sync::atomic::Ordering;
 
 /// The answers, in the order of the columns.
 pub const ANSWERS: [u32; 5] = [0, 17, 18, 15, 19];
-const GUARD: usize = 9;
+pub const GUARD: usize = 9;
 /// No more numbers are lent: a file that asks for more is refused.
-const MOST: u64 = 1 << 16;
+pub const MOST: u64 = 1 << 16;
 
 pub struct Report {
     pub calls: u64,
     pub found: u64,
     pub returned: u64,
+    /// Rows read alone, and those among them that are compared with the whole reading.
+    pub rows: u64,
+    pub rows_of_whole: u64,
     /// By group and name, how often each answer was given; the last column is any other.
     pub counts: BTreeMap<(&'static str, &'static str), [u64; 6]>,
     first: Option<String>,
-    fence: Fence,
+    pub fence: Fence,
 }
 
 impl Report {
     pub fn new() -> Self {
-        Self { calls: 0, found: 0, returned: 0, counts: BTreeMap::new(), first: None, fence: Fence::new(64) }
+        Self {
+            calls: 0,
+            found: 0,
+            returned: 0,
+            rows: 0,
+            rows_of_whole: 0,
+            counts: BTreeMap::new(),
+            first: None,
+            fence: Fence::new(64),
+        }
     }
 
     pub fn count(&mut self, group: &'static str, name: &'static str, refusal: u32) {
@@ -34,7 +46,7 @@ impl Report {
         self.counts.entry((group, name)).or_default()[column] += 1;
     }
 
-    fn difference(&mut self, text: impl FnOnce() -> String) {
+    pub fn difference(&mut self, text: impl FnOnce() -> String) {
         self.found += 1;
         if self.first.is_none() {
             self.first = Some(text());
@@ -62,22 +74,22 @@ impl Report {
 
 /// A slice to lend, with guards before and behind it; everything is filled with random values.
 #[derive(Clone, PartialEq)]
-struct Lent<T> {
+pub struct Lent<T> {
     all: Vec<T>,
     len: usize,
 }
 
 impl<T: Copy + PartialEq + std::fmt::Debug> Lent<T> {
-    fn new(random: &mut Random, len: usize, value: fn(u64) -> T) -> Self {
+    pub fn new(random: &mut Random, len: usize, value: fn(u64) -> T) -> Self {
         Self { all: (0..len + 2 * GUARD).map(|_| value(random.next())).collect(), len }
     }
 
-    fn part(&mut self) -> &mut [T] {
+    pub fn part(&mut self) -> &mut [T] {
         &mut self.all[GUARD..GUARD + self.len]
     }
 
     /// The first value that is another one, counted from the lent part's start; guards have places outside it.
-    fn differ(&self, name: &str, library: &Self, notes: &mut Vec<String>) {
+    pub fn differ(&self, name: &str, library: &Self, notes: &mut Vec<String>) {
         if let Some(at) = self.all.iter().zip(&library.all).position(|(one, other)| one != other) {
             let (place, one, other) = (at as isize - GUARD as isize, self.all[at], library.all[at]);
             notes.push(format!("{name} at {place} of {}: model {one:x?}, library {other:x?}", self.len));
@@ -103,7 +115,7 @@ impl Buffers {
 }
 
 /// Exact, empty, one short, any number short, longer.
-fn lent_length(random: &mut Random, need: u64, is_exact: bool) -> (usize, usize) {
+pub fn lent_length(random: &mut Random, need: u64, is_exact: bool) -> (usize, usize) {
     let (kind, len) = match random.below(24) {
         _ if need > MOST => (3, random.below(100)),
         _ if is_exact => (0, need),
@@ -155,7 +167,7 @@ fn form(file: &[u8]) -> &'static str {
     NAMES[hand::PAIRS.iter().position(|pair| *pair == of_file).expect("a pair that is read")]
 }
 
-fn hex(bytes: &[u8]) -> String {
+pub fn hex(bytes: &[u8]) -> String {
     bytes.iter().map(|byte| format!("{byte:02x}")).collect()
 }
 
@@ -178,7 +190,7 @@ fn returned(written: &Written, reading: &Reading, buffers: &mut Buffers, notes: 
     same("profile", written.file.get(at..at + bytes) == Some(&written.profile[..]));
 }
 
-/// Both calls on one file. `written` is given where the file is as the writer made it.
+/// The calls on one file. `written` is given where the file is as the writer made it.
 pub fn compare(
     report: &mut Report,
     random: &mut Random,
@@ -235,6 +247,11 @@ pub fn compare(
                 file.len()
             )
         });
+    }
+    row::compare(report, random, kind, file, is_exact);
+    if given_reading.refusal == 0 {
+        let numbers = expected_sizes.cell_numbers as usize;
+        row::of_whole(report, random, file, given_reading.height, &given.cells.part()[..numbers]);
     }
     given_reading
 }

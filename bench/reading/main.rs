@@ -13,6 +13,7 @@ mod port;
 #[path = "../differential/random.rs"]
 mod random;
 mod reader;
+mod row;
 
 use compare::{ANSWERS, Report, compare};
 use random::Random;
@@ -55,14 +56,19 @@ fn timed(what: &str, report: &mut Report, part: impl FnOnce(&mut Report)) {
     println!("{what}: {calls} calls, {:.1} s, differences so far {}", start.elapsed().as_secs_f64(), report.found);
 }
 
-/// Kinds of damage and answers that no call had.
+/// Kinds of damage and answers that no call had, of a file or of a row.
 fn not_met(report: &Report) -> Vec<String> {
     let met = |name: &str| report.counts.keys().any(|(_, known)| *known == name);
-    let kinds = damage::kinds().into_iter().filter(|kind| !met(kind)).map(String::from);
-    let answered = |column: usize| report.counts.values().any(|counts| counts[column] > 0);
-    let answers =
-        ANSWERS.iter().enumerate().filter(|(column, _)| !answered(*column)).map(|(_, number)| number.to_string());
-    kinds.chain(answers).collect()
+    let mut missing: Vec<String> = damage::kinds().into_iter().filter(|kind| !met(kind)).map(String::from).collect();
+    for group in ["answers by damage", "one row, answers by damage"] {
+        let of_group = || report.counts.iter().filter(|((of, _), _)| *of == group);
+        for (column, number) in ANSWERS.iter().enumerate() {
+            if of_group().all(|(_, counts)| counts[column] == 0) {
+                missing.push(format!("{group}: {number}"));
+            }
+        }
+    }
+    missing
 }
 
 fn main() {
@@ -83,6 +89,7 @@ fn main() {
     report.print();
     println!("\ntime: {:.1} s", start.elapsed().as_secs_f64());
     println!("files of the writer read back to what was handed in: {}", report.returned);
+    println!("rows read alone: {}, and from their starts as in a whole reading: {}", report.rows, report.rows_of_whole);
     let missing = not_met(&report);
     for name in &missing {
         println!("NOT MET: {name}");

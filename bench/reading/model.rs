@@ -1,5 +1,5 @@
-//! A reader of BMP files in safe Rust, written from the words of request A.1 with its own arithmetic. It is what the
-//! library is compared with, and what its speed is measured against.
+//! A reader of BMP files in safe Rust, written from the words of requests A.1 and A.7 with its own arithmetic. It is
+//! what the library is compared with, and what its speed is measured against.
 //!
 //! Nothing wraps: the largest width (2^31 - 1), height (2^31) and depth (32) take 2^64 - 2^33 bytes of rows and as many
 //! numbers of cells, which a u64 holds, also with a pixel offset on top.
@@ -158,11 +158,9 @@ fn profile(file: &[u8], header_bytes: u32) -> Option<(u64, u64)> {
     part(file, at, bytes).map(|_| (at, bytes))
 }
 
-/// None where a byte of header, masks, table, plain rows or profile lies outside the file.
-fn layout(file: &[u8]) -> Option<Layout<'_>> {
-    let header_bytes = dword(file, 14)?;
-    let head = part(file, 0, 14 + u64::from(header_bytes))?;
-    let offset = u64::from(dword(file, 10)?);
+/// Everything but pixels and profile; none where a byte of header, masks or table lies outside the file.
+fn frame(file: &[u8]) -> Option<Layout<'_>> {
+    let head = part(file, 0, 14 + u64::from(dword(file, 14)?))?;
     let (width, height) = (dword(file, 18)?, long(file, 22)?);
     let (depth, compression) = (u32::from(word(file, 28)?), dword(file, 30)?);
     let entries = match dword(file, 46)? {
@@ -170,26 +168,44 @@ fn layout(file: &[u8]) -> Option<Layout<'_>> {
         0 => 1 << depth,
         count => u64::from(count),
     };
-    let row_bytes = (u64::from(width) * u64::from(depth)).div_ceil(32) * 4;
-    let (profile_at, profile_bytes) = profile(file, header_bytes)?;
     Some(Layout {
         head,
         table: part(file, head.len() as u64, 4 * entries)?,
-        pixels: if is_coded(compression) {
-            file.get(offset as usize..).unwrap_or(&[])
-        } else {
-            part(file, offset, row_bytes * u64::from(height.unsigned_abs()))?
-        },
-        profile_at,
-        profile_bytes,
+        pixels: &[],
+        profile_at: 0,
+        profile_bytes: 0,
         width,
         height: height.unsigned_abs(),
         is_top_first: height < 0,
         depth,
         compression,
         masks: if is_masked(compression) { masks(file, compression)? } else { [0; 4] },
-        row_bytes,
+        row_bytes: (u64::from(width) * u64::from(depth)).div_ceil(32) * 4,
     })
+}
+
+/// The stored rows from a place on, or everything from there on if it is a stream. A stream that begins past the end has
+/// no byte, and then does not fill its first row.
+fn pixels<'a>(file: &'a [u8], frame: &Layout<'_>, at: u64) -> Option<&'a [u8]> {
+    if is_coded(frame.compression) {
+        return Some(usize::try_from(at).ok().and_then(|at| file.get(at..)).unwrap_or(&[]));
+    }
+    part(file, at, frame.row_bytes * u64::from(frame.height))
+}
+
+/// None where a byte of header, masks, table, plain rows or profile lies outside the file.
+fn layout(file: &[u8]) -> Option<Layout<'_>> {
+    let mut layout = frame(file)?;
+    (layout.profile_at, layout.profile_bytes) = profile(file, dword(file, 14)?)?;
+    layout.pixels = pixels(file, &layout, dword(file, 10)?.into())?;
+    Some(layout)
+}
+
+/// The same for one row that begins at a place; there is no profile.
+fn row_layout(file: &[u8], start: u64) -> Option<Layout<'_>> {
+    let mut layout = Layout { height: 1, ..frame(file)? };
+    layout.pixels = pixels(file, &layout, start)?;
+    Some(layout)
 }
 
 fn checked_layout(file: &[u8]) -> Result<Layout<'_>, u32> {
@@ -282,8 +298,8 @@ enum Code<'a> {
 }
 
 /// Goes through the stream up to the last cell, and tells `fill` the place of each code's first cell, the count and the
-/// code. None is 19.
-fn walk<const DEPTH: usize>(layout: &Layout<'_>, mut fill: impl FnMut(usize, usize, Code<'_>)) -> Option<()> {
+/// code. What is left of the stream is answered. None is 19.
+fn walk<'a, const DEPTH: usize>(layout: &Layout<'a>, mut fill: impl FnMut(usize, usize, Code<'_>)) -> Option<&'a [u8]> {
     let width = layout.width as usize;
     let mut rest = layout.pixels;
     for row in (0..layout.height as usize).rev() {
@@ -309,7 +325,7 @@ fn walk<const DEPTH: usize>(layout: &Layout<'_>, mut fill: impl FnMut(usize, usi
             rest = rest.strip_prefix(&[0, 0])?;
         }
     }
-    Some(())
+    Some(rest)
 }
 
 fn fill_run<const DEPTH: usize>(value: u8, cells: &mut [u32]) {
@@ -332,9 +348,22 @@ fn fill_stream<const DEPTH: usize>(layout: &Layout<'_>, cells: &mut [u32]) -> Op
             Code::Packed(bytes) => unpack::<4>(bytes, cells),
         }
     })
+    .map(|_| ())
 }
 
-// The two calls.
+/// A refused stream must leave the cells as they were, so it is walked through before the first one is filled.
+fn fill(layout: &Layout<'_>, cells: &mut [u32]) -> Result<(), u32> {
+    match layout.compression {
+        1 => walk::<8>(layout, |_, _, _| {}).and_then(|_| fill_stream::<8>(layout, cells)).ok_or(BAD_STREAM),
+        2 => walk::<4>(layout, |_, _, _| {}).and_then(|_| fill_stream::<4>(layout, cells)).ok_or(BAD_STREAM),
+        _ => {
+            fill_rows(layout, cells);
+            Ok(())
+        }
+    }
+}
+
+// The three calls.
 
 /// The first part of a lent buffer, as long as what goes there.
 fn room<T>(buffer: &mut [T], len: u64) -> Result<&mut [T], u32> {
@@ -346,12 +375,7 @@ fn try_read(file: &[u8], head: &mut [u8], table: &mut [u8], cells: &mut [u32]) -
     let head = room(head, layout.head.len() as u64)?;
     let table = room(table, layout.table.len() as u64)?;
     let cells = room(cells, layout.cell_numbers())?;
-    // A refused stream must leave the cells as they were, so it is walked through before the first one is filled.
-    match layout.compression {
-        1 => walk::<8>(&layout, |_, _, _| {}).and_then(|()| fill_stream::<8>(&layout, cells)).ok_or(BAD_STREAM)?,
-        2 => walk::<4>(&layout, |_, _, _| {}).and_then(|()| fill_stream::<4>(&layout, cells)).ok_or(BAD_STREAM)?,
-        _ => fill_rows(&layout, cells),
-    }
+    fill(&layout, cells)?;
     head.copy_from_slice(layout.head);
     table.copy_from_slice(layout.table);
     Ok(Reading {
@@ -381,4 +405,40 @@ pub fn read_sizes(file: &[u8]) -> Sizes {
         },
         Err(refusal) => Sizes { refusal, ..Sizes::default() },
     }
+}
+
+fn try_read_row(file: &[u8], start: u64, cells: &mut [u32]) -> Result<(), u32> {
+    if is_never_written(file) {
+        return Err(NEVER_WRITTEN);
+    }
+    let layout = row_layout(file, start).ok_or(OUTSIDE_THE_FILE)?;
+    let cells = room(cells, layout.cell_numbers())?;
+    fill(&layout, cells)
+}
+
+/// The row that begins at a place of the file: 0, or the number.
+pub fn read_row(file: &[u8], start: u64, cells: &mut [u32]) -> u32 {
+    try_read_row(file, start, cells).err().unwrap_or(0)
+}
+
+/// The numbers that a row's cells take, and where its stored bytes end if it is plain; none where 17 or 18 comes first,
+/// but for 18 of the row itself.
+pub fn row_needs(file: &[u8], start: u64) -> Option<(u64, Option<u64>)> {
+    let frame = frame(file).filter(|_| !is_never_written(file))?;
+    let end = if is_coded(frame.compression) { None } else { Some(start.saturating_add(frame.row_bytes)) };
+    Some((Layout { height: 1, ..frame }.cell_numbers(), end))
+}
+
+/// Where stored row k begins in a file that is read, or in a stream as far as it can be read; none past the last row.
+pub fn row_start(file: &[u8], k: u32) -> Option<u64> {
+    let layout = checked_layout(file).ok().filter(|layout| k < layout.height)?;
+    if !is_coded(layout.compression) {
+        return Some(u64::from(dword(file, 10)?) + layout.row_bytes * u64::from(k));
+    }
+    let mut row = Layout { height: 1, ..layout };
+    for _ in 0..k {
+        let rest = if row.compression == 1 { walk::<8>(&row, |_, _, _| {}) } else { walk::<4>(&row, |_, _, _| {}) };
+        row.pixels = rest?.strip_prefix(&[0, 0])?;
+    }
+    Some((file.len() - row.pixels.len()) as u64)
 }

@@ -5,6 +5,7 @@
 //! of each side the least time counts; the spread is the least and the greatest ratio among five parts of the rounds.
 //! `reading_speed FACTOR NAME` has FACTOR times as many rounds, and only the workloads with NAME in their names.
 
+#[allow(dead_code)]
 mod model;
 #[path = "../differential/port.rs"]
 #[allow(dead_code)]

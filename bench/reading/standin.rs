@@ -1,8 +1,9 @@
-//! The model under the names of the C interface, for trying everything before the library has the two functions.
+//! The model under the names of the C interface, for trying everything before the library has the three functions.
 #![no_std]
 
 #[path = "../bare.rs"]
 mod bare;
+#[allow(dead_code)]
 mod model;
 
 use bare::{lent, lent_mut};
@@ -36,4 +37,17 @@ pub unsafe extern "C" fn bmp_read(
 #[unsafe(no_mangle)]
 pub unsafe extern "C" fn bmp_read_sizes(file: *const u8, file_len: usize) -> Sizes {
     model::read_sizes(unsafe { lent(file, file_len) })
+}
+
+/// # Safety
+/// Each pointer goes with its length, and the cells do not overlap the file.
+#[unsafe(no_mangle)]
+pub unsafe extern "C" fn bmp_read_row(
+    file: *const u8,
+    file_len: usize,
+    start: u64,
+    cells: *mut u32,
+    cells_len: usize,
+) -> u32 {
+    unsafe { model::read_row(lent(file, file_len), start, lent_mut(cells, cells_len)) }
 }

@@ -7,6 +7,11 @@ here=$(cd "$(dirname "$0")" && pwd)
 root=$(cd "$here/../.." && pwd)
 build=$root/target/differential
 bash "$root/bench/differential/build.sh" "$1"
+# With STANDIN=1 the stand-in that this has built comes first.
+link=()
+if [ -n "${STANDIN:-}" ]; then
+    link=(-L native="$build" -l static=starts_standin -C link-arg=-Wl,--allow-multiple-definition)
+fi
 rustc --edition 2024 -O --crate-name speed --extern oxideav_bmp="$build/liboxideav_bmp.rlib" \
-    -L native="$root/target/staticlib" -l static=capi -o "$root/target/speed" "$here/main.rs"
+    "${link[@]}" -L native="$root/target/staticlib" -l static=capi -o "$root/target/speed" "$here/main.rs"
 echo "built target/speed"

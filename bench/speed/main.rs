@@ -4,12 +4,19 @@
 //! that is not cleared. Files are compared first, with the agreed differences. Rounds are interleaved, and of each side the least time counts; the
 //! spread is the least and the greatest ratio among five parts of the rounds, each with its own least times. The last
 //! column is a copy of the file's bytes. `speed FACTOR NAME` runs the workloads with NAME in their names. A second table has the port's time by the picture's size.
+//! A third has the writing call with row starts against the one without, and one row read against the whole file.
 
 #[path = "../differential/agreed.rs"]
 mod agreed;
+#[path = "../reading/model.rs"]
+#[allow(dead_code)]
+mod model;
 #[path = "../differential/port.rs"]
 #[allow(dead_code)]
 mod port;
+#[path = "../reading/reader.rs"]
+mod reader;
+mod starts;
 
 use oxideav_bmp::encoder::{BmpBitfields, Picture, differential_append};
 use oxideav_bmp::image::{BmpPixelFormat, Palette};
@@ -227,9 +234,10 @@ fn main() {
     println!("|---|---|---|---|---|---|---|---|");
     let mut logs = Vec::new();
     let part = std::env::args().nth(2);
-    for w in workloads().into_iter().filter(|w| part.as_ref().is_none_or(|part| w.name.contains(part))) {
+    let works: Vec<Work> = workloads().into_iter().filter(|w| part.as_ref().is_none_or(|part| w.name.contains(part))).collect();
+    for w in &works {
         let rounds = factor * if w.width * w.height > 1_000_000 { 25 } else { 200 };
-        let (parts, format, len) = measure(&w, rounds);
+        let (parts, format, len) = measure(w, rounds);
         let t = parts.iter().copied().fold(Times::NONE, Times::least);
         let (low, high) = parts.iter().fold((f64::MAX, 0f64), |(low, high), part| (low.min(part.ratio()), high.max(part.ratio())));
         logs.push(t.ratio().ln());
@@ -239,4 +247,5 @@ fn main() {
     if part.is_none() {
         growth(factor);
     }
+    starts::table(factor, works.iter());
 }
