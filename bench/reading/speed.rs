@@ -1,5 +1,5 @@
 //! The time of a reading call: the library, the model in safe Rust, and a loop that widens a byte to a number for each
-//! cell.
+//! cell; and, in a second table, of one row read from its start by the library and by the model.
 //!
 //! All three fill the same memory. What the library and the model fill is compared first. Rounds are interleaved, and
 //! of each side the least time counts; the spread is the least and the greatest ratio among five parts of the rounds.
@@ -186,6 +186,60 @@ fn measure(work: &Work, rounds: usize) -> Vec<Times> {
     (0..PARTS).map(|_| (0..rounds.div_ceil(PARTS)).fold(Times::NONE, |best, _| best.least(round()))).collect()
 }
 
+/// The middle row alone, read a hundred times, since one takes less than the clock can tell.
+fn measure_row(work: &Work, rounds: usize) -> Vec<Times> {
+    let sizes = reader::read_sizes(&work.file);
+    let mut cells = vec![0u32; (sizes.cell_numbers / u64::from(sizes.height)) as usize];
+    let start = model::row_start(&work.file, sizes.height / 2).expect("a stored row");
+    assert_eq!(model::read_row(&work.file, start, &mut cells), 0);
+    let mut again = vec![u32::MAX; cells.len()];
+    assert!(port::read_row(&work.file, start, &mut again) == 0 && cells == again, "{}: the row differs", work.name);
+    let file = &work.file[..];
+    let mut library_first = false;
+    let mut hundred = |read: fn(&[u8], u64, &mut [u32]) -> u32| {
+        let read_once = |_| _ = black_box(read(black_box(file), black_box(start), black_box(&mut cells)));
+        timed(|| (0..100).for_each(read_once)) / 100.0
+    };
+    let mut round = || {
+        let mut times = Times::NONE;
+        library_first = !library_first;
+        for library in [library_first, !library_first] {
+            if library {
+                times.library = hundred(port::read_row);
+            } else {
+                times.model = hundred(model::read_row);
+            }
+        }
+        times
+    };
+    (0..PARTS).map(|_| (0..rounds.div_ceil(PARTS)).fold(Times::NONE, |best, _| best.least(round()))).collect()
+}
+
+/// The least ratio among the parts, and the greatest.
+fn spread(parts: &[Times]) -> (f64, f64) {
+    parts.iter().fold((f64::MAX, 0f64), |(low, high), part| (low.min(part.ratio()), high.max(part.ratio())))
+}
+
+fn rows(factor: usize, works: &[&Work]) {
+    println!("\n| workload | library ns a row | model ns a row | library / model | spread |");
+    println!("|---|---|---|---|---|");
+    let mut logs = Vec::new();
+    for work in works {
+        let parts = measure_row(work, factor * 500);
+        let best = parts.iter().copied().fold(Times::NONE, Times::least);
+        let (low, high) = spread(&parts);
+        logs.push(best.ratio().ln());
+        println!(
+            "| {} | {:.0} | {:.0} | {:.2} | {low:.2} to {high:.2} |",
+            work.name,
+            best.library * 1e9,
+            best.model * 1e9,
+            best.ratio()
+        );
+    }
+    println!("\ngeometric mean of library / model: {:.2}", (logs.iter().sum::<f64>() / logs.len() as f64).exp());
+}
+
 fn main() {
     let factor: usize = std::env::args().nth(1).and_then(|n| n.parse().ok()).unwrap_or(1);
     let name = std::env::args().nth(2).unwrap_or_default();
@@ -194,11 +248,12 @@ fn main() {
     );
     println!("|---|---|---|---|---|---|---|");
     let mut logs = Vec::new();
-    for work in workloads().iter().filter(|work| work.name.contains(&name)) {
+    let all = workloads();
+    let works: Vec<&Work> = all.iter().filter(|work| work.name.contains(&name)).collect();
+    for work in &works {
         let parts = measure(work, factor * if work.cells > 100_000 { 200 } else { 2000 });
         let best = parts.iter().copied().fold(Times::NONE, Times::least);
-        let (low, high) =
-            parts.iter().fold((f64::MAX, 0f64), |(low, high), part| (low.min(part.ratio()), high.max(part.ratio())));
+        let (low, high) = spread(&parts);
         let nanoseconds = |time: f64| time * 1e9 / work.cells as f64;
         let widening = if work.has_bytes { format!("{:.2}", best.library / best.widening) } else { "-".into() };
         logs.push(best.ratio().ln());
@@ -212,4 +267,5 @@ fn main() {
         );
     }
     println!("\ngeometric mean of library / model: {:.2}", (logs.iter().sum::<f64>() / logs.len() as f64).exp());
+    rows(factor, &works);
 }
