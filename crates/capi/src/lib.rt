@@ -1,5 +1,7 @@
 // The writer, the reader and what paints a grid for callers from C: structs and numbers instead of enums. `clients/c/bmp_writer.h` declares the
 // same.
+#![tactic(auto)]
+
 ghost use Rattle.std.specs.Prelude.{◌≡◌, [], ◌∷◌};
 ghost use Rattle.leaves.specs.Masks.{bitfields_rows};
 ghost use Rattle.leaves.specs.Refusals.{first_number, first_applying};

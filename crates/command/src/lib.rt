@@ -1,5 +1,7 @@
 // The command on memory that the caller lends: what its words ask for, the files it needs, and its run. A front in C, or
 // another program, reads and writes the files. `clients/c/bmp_command.h` declares the same.
+#![tactic(auto)]
+
 ghost use Rattle.std.specs.Prelude.{◌≡◌};
 ghost use Rattle.arguments.specs.Words.{words_of};
 ghost use Rattle.leaves.specs.Refusals.{first_applying};

@@ -1,2 +1,4 @@
 // What happens to a grid before it is written.
+#![tactic(auto)]
+
 pub mod scale;

@@ -1,4 +1,6 @@
 // The reader: a file's fields, the tests that refuse it, its rows, and the calls.
+#![tactic(auto)]
+
 pub mod checks;
 pub mod fields;
 pub mod picture;

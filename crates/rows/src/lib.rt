@@ -1,4 +1,6 @@
 // Rows: packed as the file stores them, or coded, counted and written.
+#![tactic(auto)]
+
 pub mod blocks;
 pub mod counting;
 mod exchange;

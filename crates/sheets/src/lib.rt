@@ -1,4 +1,6 @@
 // A sheet: rows of numbers in a text, as a spreadsheet writes them out. Indices are read, and numbers written.
+#![tactic(auto)]
+
 ghost use Rattle.std.specs.Prelude.{◌≡◌, [], map, ◌+◌, ◌-◌, ◌≤◌, length, drop};
 ghost use Rattle.leaves.specs.Put.{put};
 ghost use Rattle.arguments.specs.Words.{part_of, items_of, item_at};

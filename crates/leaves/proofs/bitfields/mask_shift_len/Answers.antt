@@ -2,8 +2,7 @@ use Rattle.std.proofs.Common.{◌≡◌, ℕ, ◌-◌, ◌^◌, ◌<◌, sym, re
 use lib.Count.{count_leading_zeros, count_trailing_zeros, leading_le}
 use Rattle.leaves.specs.Masks.{ShiftLen, count, lowest}
 use Rattle.leaves.proofs.Runs.{count-zero, ends_within, len_run}
-use Rattle.leaves.proofs.bitfields.mask_shift_len.Statement.{statement}
-use Rattle.leaves.proofs.bitfields.mask_shift_len.Tie as tie
+use Rattle.leaves.proofs.bitfields.mask_shift_len.Goals as goal
 
 zero-mask : (m : ℕ) → m ≡ 0 → ShiftLen m 0 0
 zero-mask m z =
@@ -26,17 +25,14 @@ some-mask m some h =
       run_shift = λ _ _. refl;
     }
 
-returns : tie.Need-returns
-returns c = zero-mask c.before.args.mask c.if1.true
+pub returns-then-mask-eq0 : goal.returns-then-mask-eq0
+returns-then-mask-eq0 c = zero-mask c.args.mask c.if-mask-eq0.true
 
-sub-len : tie.Need-overflow-sub-len
-sub-len c = leading_le 32 c.before.args.mask
+pub overflow_sub-len : goal.overflow_sub-len
+overflow_sub-len c = leading_le 32 c.args.mask
 
-sub-len-2 : tie.Need-overflow-sub-len-2
-sub-len-2 c = omega (arith, ends_within c.before.args.mask (omega (arith, c.if1.false)) c.before.ranges.mask.fits)
+pub overflow_sub-len-2 : goal.overflow_sub-len-2
+overflow_sub-len-2 c = omega (arith, ends_within c.args.mask (omega (arith, c.if-mask-eq0.false)) c.ranges.mask.fits)
 
-returns-2 : tie.Need-returns-2
-returns-2 c = some-mask c.before.args.mask c.if1.false c.before.ranges.mask.fits
-
-pub mask-shift-len-spec : {M : Type 1} → statement M
-mask-shift-len-spec = tie.close (tie.spec returns sub-len sub-len-2 returns-2)
+pub returns : goal.returns
+returns c = some-mask c.args.mask c.if-mask-eq0.false c.ranges.mask.fits

@@ -1,4 +1,4 @@
-use Rattle.std.proofs.Common.{◌≡◌, ℕ, ◌+◌, ◌-◌, ◌<◌, ◌≤◌, true, false, cond, not, eqb, ◌⊎◌, List, [], ◌∷◌, get_or, sym, refl, ◌∙◌, inl, inr, ⊎_elim, le_antisymm, add-one, arith, rules, eq-eqb, eqb-true}
+use Rattle.std.proofs.Common.{◌≡◌, ℕ, ◌+◌, ◌<◌, ◌≤◌, true, false, cond, not, eqb, ◌⊎◌, List, [], ◌∷◌, get_or, sym, refl, ◌∙◌, inl, inr, le_antisymm, add-one, arith, eq-eqb, eqb-true}
 use borrow.Author.Tests.{not-true, not-false}
 use lib.Bits.{bit_or}
 use Rattle.leaves.specs.declared.error.Refusal.TheVariants.{NoColourMask}
@@ -10,8 +10,8 @@ use Rattle.leaves.specs.Lists.{cat}
 use Rattle.leaves.specs.Refusals.{number_of, check_number, first_of, first_number}
 use Rattle.leaves.proofs.FirstOf.{check_determined, first_pass, first_stop, cat_stop, cat_pass}
 use Rattle.leaves.proofs.Tests.{tests}
-use Rattle.leaves.proofs.bitfields.validate.Statement.{statement}
-use Rattle.leaves.proofs.bitfields.validate.Tie as tie
+use Rattle.leaves.proofs.bitfields.validate.Goals.{else-bpp-ne16-via-else-bpp-ne16, else-bpp-ne16-via-then-bpp-ne16+else-bpp-ne32, else-masks-eq0-via-else-masks-eq0, else-masks-eq0-via-then-masks-eq0+else-masks-eq0-2, else-masks-eq0-via-then-masks-eq0+then-masks-eq0-2+else-masks-eq0-3}
+use Rattle.leaves.proofs.bitfields.validate.Goals as goal
 
 other-depth : (d : ℕ) (masks : List ℕ) → (d ≡ 16 → ⊥) → not (eqb d 32) ≡ true → 6 ≡ first_number (bitfields_rows d masks)
 unfolding bitfields_rows
@@ -65,93 +65,37 @@ green-given masks e = search tests
 blue-given : (masks : List ℕ) → eqb (get_or masks 2 0) 0 ≡ false → no_colour_mask masks ≡ false
 blue-given masks e = search tests
 
-abbrev invariant-loop : tie.invariant-loop
-invariant-loop bpp masks union₀ k₀ union k = ((bpp ≡ 16) ⊎ (bpp ≡ 32)) × (k ≤ 4) × (union ≡ union_of masks k) × (first_of (cat (mask_rows bpp masks) k) ≡ Passed)
+pub returns-then-bpp-ne32 : goal.returns-then-bpp-ne32
+returns-then-bpp-ne32 c = other-depth c.args.bpp c.args.masks c.if-bpp-ne16.true c.if-bpp-ne32.true-raw
 
-abbrev decreases-loop : tie.decreases-loop
-decreases-loop bpp masks union₀ k₀ union k = 4 - k
-
-returns : tie.Need-returns invariant-loop decreases-loop
-returns c = other-depth c.before.before.args.bpp c.before.before.args.t2 c.before.if1.true c.if2.true
-
-loop-holds : tie.Need-loop-init invariant-loop decreases-loop
+pub loop-k-init : goal.loop-k-init
 unfolding union_of cat
-loop-holds c = (⊎_elim (λ w. inr (eqb-true c.before.args.bpp 32 (not-false (eqb c.before.args.bpp 32) w.1.left))) (λ w. inl w.left) c.if1.branch, omega arith, refl, refl)
+loop-k-init c = (elim (c.else-bpp-ne16.branch) [ else-bpp-ne16-via-then-bpp-ne16+else-bpp-ne32 w ↦ inr (eqb-true c.args.bpp 32 (not-false (eqb c.args.bpp 32) w.if-bpp-ne32.false-raw)) | else-bpp-ne16-via-else-bpp-ne16 w ↦ inl w.if-bpp-ne16.false ], omega arith, refl, refl)
 
-validate-mask-requires : tie.Need-validate-mask-requires invariant-loop decreases-loop
-validate-mask-requires c κs = (c.before.loop.invariant.0, (omega arith, c.before.loop.invariant.2))
+pub validate_mask-check-requires : goal.validate_mask-check-requires
+validate_mask-check-requires c = record { fact = c.loop-k.invariant.0; k_bound = omega arith; union_value = c.loop-k.invariant.2 }
 
-enum-known-check : tie.Need-enum-known-check invariant-loop decreases-loop
-enum-known-check c = search rules
+pub returns-in-Refused : goal.returns-in-Refused
+returns-in-Refused c =
+    let l = c.loop-k in
+    let a = c.args in
+    stopped a.bpp a.masks l.k c.validate_mask-check.result c.in-Refused.why l.invariant.0 (omega arith) l.invariant.3 c.validate_mask-check.ensures c.in-Refused.is
 
-returns-2 : tie.Need-returns-2 invariant-loop decreases-loop
-returns-2 c =
-    let l = c.before.before.before.before.before.loop in
-    let a = c.before.before.before.before.before.before.before.args in
-    stopped a.bpp a.t2 l.k c.before.before.before.validate-mask.result c.before.check.given.0.0 l.invariant.0 (omega arith) l.invariant.3 c.before.before.before.validate-mask.ensures c.before.check.given.1
+pub loop-k-preserved : goal.loop-k-preserved
+loop-k-preserved c =
+    let l = c.loop-k in
+    let a = c.args in
+    (l.invariant.0, omega arith, union_more a.masks l.k l.union l.invariant.2, rows_more a.bpp a.masks l.k c.validate_mask-check.result l.invariant.3 c.validate_mask-check.ensures c.in_default.is)
 
-enum_told : tie.Need-enum-told invariant-loop decreases-loop
-enum_told c = search rules
+pub returns-then-masks-eq0-3 : goal.returns-then-masks-eq0-3
+returns-then-masks-eq0-3 c =
+    let l = c.loop-k in
+    let a = c.args in
+    none_left a.bpp a.masks l.k l.invariant.0 l.invariant.1 c.loop-k-test.false l.invariant.3 c.if-masks-eq0.true c.if-masks-eq0-2.true-raw c.if-masks-eq0-3.true-raw
 
-mul-union : tie.Need-overflow-mul-union invariant-loop decreases-loop
-mul-union c = omega arith
-
-array-read-union : tie.Need-array-read-union invariant-loop decreases-loop
-array-read-union c = omega arith
-
-add-k : tie.Need-overflow-add-k invariant-loop decreases-loop
-add-k c = omega arith
-
-loop-less : tie.Need-loop-smaller invariant-loop decreases-loop
-loop-less c = omega arith
-
-loop-again : tie.Need-loop-preserved invariant-loop decreases-loop
-loop-again c =
-    let l = c.before.before.before.before.loop in
-    let a = c.before.before.before.before.before.before.args in
-    (l.invariant.0, omega arith, union_more a.t2 l.k l.union l.invariant.2, rows_more a.bpp a.t2 l.k c.before.before.validate-mask.result l.invariant.3 c.before.before.validate-mask.ensures c.enum_told.given.1)
-
-array-read-if3 : tie.Need-array-read-if3 invariant-loop decreases-loop
-array-read-if3 c = omega arith
-
-array-read-if4 : tie.Need-array-read-if4 invariant-loop decreases-loop
-array-read-if4 c = omega arith
-
-array-read-if5 : tie.Need-array-read-if5 invariant-loop decreases-loop
-array-read-if5 c = omega arith
-
-returns-3 : tie.Need-returns-3 invariant-loop decreases-loop
-returns-3 c =
-    let l = c.before.before.before.before.loop in
-    let a = c.before.before.before.before.before.before.args in
-    none_left a.bpp a.t2 l.k l.invariant.0 l.invariant.1 c.before.before.before.loop-test.false l.invariant.3 c.before.before.if3.true c.before.if4.true c.if5.true
-
-returns-4 : tie.Need-returns-4 invariant-loop decreases-loop
-returns-4 c =
-    let l = c.before.before.loop in
-    let a = c.before.before.before.before.args in
-    let some = some_left a.bpp a.t2 l.k l.invariant.0 l.invariant.1 c.before.loop-test.false l.invariant.3 in
-    ⊎_elim (λ w. some (blue-given a.t2 w.2.left)) (⊎_elim (λ w. some (green-given a.t2 w.1.left)) (λ w. some (red-given a.t2 w.left))) c.if3.branch
-
-pub validate-spec : {M : Type 1} → statement M
-validate-spec =
-    tie.close
-    (tie.spec
-    invariant-loop
-    decreases-loop
-    returns
-    loop-holds
-    validate-mask-requires
-    enum-known-check
-    returns-2
-    enum_told
-    mul-union
-    array-read-union
-    add-k
-    loop-less
-    loop-again
-    array-read-if3
-    array-read-if4
-    array-read-if5
-    returns-3
-    returns-4)
+pub returns : goal.returns
+returns c =
+    let l = c.loop-k in
+    let a = c.args in
+    let some = some_left a.bpp a.masks l.k l.invariant.0 l.invariant.1 c.loop-k-test.false l.invariant.3 in
+    elim (c.else-masks-eq0.branch) [ else-masks-eq0-via-then-masks-eq0+then-masks-eq0-2+else-masks-eq0-3 w ↦ some (blue-given a.masks w.if-masks-eq0-3.false-raw) | else-masks-eq0-via-then-masks-eq0+else-masks-eq0-2 w ↦ some (green-given a.masks w.if-masks-eq0-2.false-raw) | else-masks-eq0-via-else-masks-eq0 w ↦ some (red-given a.masks w.if-masks-eq0.false) ]
