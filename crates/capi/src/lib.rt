@@ -25,7 +25,7 @@ use reader::row::read_row;
 
 // 76 bytes.
 #[repr(C)]
-#[derive(Drop)]
+#[derive(Clone, Copy)]
 pub struct BmpOptions {
     pub top_down: bool,
     pub minimal_palette: bool,
@@ -43,7 +43,7 @@ pub struct BmpOptions {
 
 // 16 bytes.
 #[repr(C)]
-#[derive(Drop)]
+#[derive(Clone, Copy)]
 pub struct BmpSettings {
     // Bytes that a file may have.
     pub limit: u64,
@@ -54,7 +54,7 @@ pub struct BmpSettings {
 
 // 24 bytes.
 #[repr(C)]
-#[derive(Drop)]
+#[derive(Clone, Copy)]
 pub struct BmpSource {
     // 0 Rgba, 1 Rgb24, 2 Bgra, 3 Bgr24, 4 Rgb555, 5 Rgb565, 6 Pal8, 7 Indexed4, 8 Indexed2, 9 Indexed1.
     pub format: u32,
@@ -67,7 +67,7 @@ pub struct BmpSource {
 }
 
 #[repr(C)]
-#[derive(Drop)]
+#[derive(Clone, Copy)]
 pub struct BmpAnswer {
     // Bytes appended, or the bound; 0 with a refusal.
     pub bytes: u64,
@@ -79,7 +79,7 @@ pub struct BmpAnswer {
 }
 
 // What a caller's format number means.
-#[derive(Drop)]
+#[derive(Clone, Copy)]
 pub enum SourceFormat {
     Known(BmpPixelFormat),
     Unknown,
@@ -326,7 +326,7 @@ pub extern "C" fn bmp_check_masks(bpp: u16, red: u32, green: u32, blue: u32, alp
 
 // 32 bytes.
 #[repr(C)]
-#[derive(Drop)]
+#[derive(Clone, Copy)]
 pub struct BmpReading {
     // Where the profile lies in the file; both are 0 where it is empty.
     pub profile_at: u64,
@@ -340,7 +340,7 @@ pub struct BmpReading {
 
 // 40 bytes.
 #[repr(C)]
-#[derive(Drop)]
+#[derive(Clone, Copy)]
 pub struct BmpReadingSizes {
     // What the three lent buffers must have.
     pub head_bytes: u64,

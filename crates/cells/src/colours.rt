@@ -123,7 +123,7 @@ pub fn put_bytes(file: &[u8], from: usize, size: usize, n: usize, cells: &mut [u
 }
 
 // A channel of a word: the bits under its mask, moved down by `shift`.
-#[derive(Drop)]
+#[derive(Clone, Copy)]
 pub struct Channel {
     pub mask: u32,
     pub shift: u32,
@@ -142,7 +142,7 @@ pub fn channel_of(mask: u32) -> Channel
 }
 
 // Red, green, blue, alpha.
-#[derive(Drop)]
+#[derive(Clone, Copy)]
 pub struct Channels {
     pub red: Channel,
     pub green: Channel,

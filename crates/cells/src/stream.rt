@@ -7,13 +7,13 @@ ghost use Rattle.cells.specs.Streams.{is_refused, cells_in, bytes_in, code_of, r
 use crate::indices::{put_block, put_pair_in};
 
 // How many cells a code fills and its bytes; no cell where it is refused.
-#[derive(Drop)]
+#[derive(Clone, Copy)]
 pub struct Code {
     pub cells: usize,
     pub bytes: usize,
 }
 
-#[derive(Drop)]
+#[derive(Clone, Copy)]
 pub enum RowEnd {
     // The place behind the row's codes.
     At(usize),

@@ -27,7 +27,7 @@ pub mod sample;
 
 // 32 bytes.
 #[repr(C)]
-#[derive(Drop)]
+#[derive(Clone, Copy)]
 pub struct CommandAnswer {
     // The file's bytes in `out`; 0 where there is none.
     pub bytes: u64,
@@ -43,7 +43,7 @@ pub struct CommandAnswer {
 
 // What must be lent to read a file. 32 bytes.
 #[repr(C)]
-#[derive(Drop)]
+#[derive(Clone, Copy)]
 pub struct CommandSizes {
     pub head_bytes: u64,
     pub table_bytes: u64,

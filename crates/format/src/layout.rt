@@ -4,7 +4,7 @@ use rows::pack::RowPack;
 use rows::rle::Rle;
 
 // The header family of a file. At most one of the first three is asked for in an accepted call.
-#[derive(Drop)]
+#[derive(Clone, Copy)]
 pub enum Mode {
     Masked,
     Calibrated,
@@ -13,13 +13,13 @@ pub enum Mode {
 }
 
 // What is tried before the rows are stored.
-#[derive(Drop)]
+#[derive(Clone, Copy)]
 pub enum Coding {
     Stream(Rle),
     Nothing,
 }
 
-#[derive(Drop)]
+#[derive(Clone, Copy)]
 pub struct Layout {
     pub mode: Mode,
     // biSize.

@@ -5,7 +5,7 @@ ghost use Rattle.grids.specs.Levels.{Levels, Spread};
 ghost use Rattle.grids.specs.Scale.{shade_of, index_of, indices_of, not_scale, not_quote, some_not_quote, Shaded};
 
 // Document 02: "a cell is a record with a low and a high price".
-#[derive(Drop)]
+#[derive(Clone, Copy)]
 pub struct Quote {
     pub low: f64,
     pub high: f64,

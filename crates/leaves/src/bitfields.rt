@@ -10,7 +10,7 @@ use crate::error::{Check, Refusal};
 use crate::types::{BI_ALPHABITFIELDS, BI_BITFIELDS};
 use crate::widening::widened;
 
-#[derive(Drop)]
+#[derive(Clone, Copy)]
 pub struct BmpBitfields {
     pub bpp: u16,
     // Red, green, blue, alpha.
@@ -105,7 +105,7 @@ pub fn validate(bpp: u16, masks: [u32; 4]) -> Check
 }
 
 // Where a channel stands in its word: its lowest bit and its count of bits.
-#[derive(Drop)]
+#[derive(Clone, Copy)]
 pub struct MaskShiftLen {
     pub shift: u32,
     pub len: u32,

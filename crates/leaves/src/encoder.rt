@@ -7,7 +7,7 @@ ghost use Rattle.leaves.specs.Texts.{joined};
 use crate::image::BmpPixelFormat;
 
 // What a file was written as.
-#[derive(Drop)]
+#[derive(Clone, Copy)]
 pub enum EncodedBmpFormat {
     Rgb32,
     Rgb24,
@@ -55,7 +55,7 @@ pub fn written_names() -> [u8; 106]
 
 // The picture, but for the lent slices, which stand beside it: the plane, and the palette and the
 // profiles, of which a flag here says whether they are given.
-#[derive(Drop)]
+#[derive(Clone, Copy)]
 pub struct EncodeSource {
     pub format: BmpPixelFormat,
     pub width: u32,

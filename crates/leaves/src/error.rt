@@ -3,7 +3,7 @@ ghost use Rattle.std.specs.Prelude.{◌≡◌};
 ghost use Rattle.leaves.specs.Refusals.{number_of, check_number, or_else};
 
 // The rows of document 01's table, in their order, and document 02's of the settings and of the row starts.
-#[derive(Drop)]
+#[derive(Clone, Copy)]
 pub enum Refusal {
     ZeroDimension,
     DimensionTooLarge,
@@ -56,7 +56,7 @@ impl Refusal {
 }
 
 // The answer of a check.
-#[derive(Drop)]
+#[derive(Clone, Copy)]
 pub enum Check {
     Passed,
     Refused(Refusal),

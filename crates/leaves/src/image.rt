@@ -2,7 +2,7 @@
 ghost use Rattle.std.specs.Prelude.{◌≡◌, not};
 ghost use Rattle.leaves.specs.Formats.{bytes_per_pixel, bits_per_pixel, is_indexed, blue_first, is_rgb565, mask_source};
 
-#[derive(Drop)]
+#[derive(Clone, Copy)]
 pub enum BmpPixelFormat {
     // 8-bit red, green, blue, alpha.
     Rgba,

@@ -5,7 +5,7 @@ ghost use Rattle.leaves.specs.Options.{defaults};
 use crate::bitfields::BmpBitfields;
 use crate::types::{LCS_GM_IMAGES, MAX_FILE, PELS_PER_METER};
 
-#[derive(Drop)]
+#[derive(Clone, Copy)]
 pub struct CalibratedRgb {
     // bV4Endpoints: red x, y, z, green x, y, z, blue x, y, z.
     pub endpoints: [i32; 9],
@@ -15,7 +15,7 @@ pub struct CalibratedRgb {
 
 // An absent set of masks or of calibrated colour is ignored, whatever it holds. The last three are
 // document 02's, for each screen its own.
-#[derive(Drop)]
+#[derive(Clone, Copy)]
 pub struct EncodeOptions {
     pub top_down: bool,
     pub minimal_palette: bool,

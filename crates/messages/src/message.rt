@@ -5,7 +5,7 @@ ghost use Rattle.messages.specs.Messages.{decimal, piece_for, filled, Says};
 use leaves::buffer::put_slice;
 
 // A number in decimal: the digits from a place on.
-#[derive(Drop)]
+#[derive(Clone, Copy)]
 pub struct Decimal {
     pub digits: [u8; 20],
     pub from: usize,

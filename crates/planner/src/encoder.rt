@@ -27,7 +27,7 @@ use rows::counting::{StreamCount, rle_len};
 use rows::rle::{Rle, rle_into};
 
 // The answer of the writing call.
-#[derive(Drop)]
+#[derive(Clone, Copy)]
 pub enum Encoded {
     // The format written and the bytes appended.
     File(EncodedBmpFormat, usize),

@@ -13,7 +13,7 @@ use leaves::buffer::{put_slice, put_u16, put_u32};
 use leaves::types::BMP_MAGIC;
 
 // What the two headers of every file hold, but for their constant fields.
-#[derive(Drop)]
+#[derive(Clone, Copy)]
 pub struct FirstFields {
     pub file_size: u32,
     pub pixel_offset: u32,

@@ -24,7 +24,7 @@ use leaves::options::EncodeOptions;
 use leaves::types::row_stride;
 
 // The byte counts of a call.
-#[derive(Drop)]
+#[derive(Clone, Copy)]
 pub struct Sizes {
     // Bytes before the pixels.
     pub head: usize,
@@ -40,14 +40,14 @@ pub struct Sizes {
 }
 
 // What a call will write, decided before the first byte is written; or why it writes nothing.
-#[derive(Drop)]
+#[derive(Clone, Copy)]
 pub enum Plan {
     Ready(Layout, Sizes),
     Refused(Refusal),
 }
 
 // The answer of the size query.
-#[derive(Drop)]
+#[derive(Clone, Copy)]
 pub enum SizeBound {
     Bytes(usize),
     Refused(Refusal),

@@ -4,7 +4,7 @@ ghost use Rattle.format.specs.Readers.{fields_of, word_at, dword_at, top_first, 
 ghost use Rattle.reader.specs.Fields.{fields_in};
 
 // What a reading looks at in the first 54 bytes.
-#[derive(Drop)]
+#[derive(Clone, Copy)]
 pub struct HeadFields {
     pub offset: u32,
     pub header_size: u32,

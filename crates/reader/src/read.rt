@@ -14,7 +14,7 @@ use crate::picture::{fill_rows, fill_stream, numbers_each};
 use cells::stream::stream_fails;
 use leaves::buffer::put_slice;
 
-#[derive(Drop)]
+#[derive(Clone, Copy)]
 pub struct Reading {
     // 0, or 17, 18, 15 or 19; then all else is 0.
     pub refusal: u32,
@@ -27,7 +27,7 @@ pub struct Reading {
 }
 
 // What the three lent buffers must have.
-#[derive(Drop)]
+#[derive(Clone, Copy)]
 pub struct ReadingSizes {
     // 0, 17 or 18; then all else is 0.
     pub refusal: u32,

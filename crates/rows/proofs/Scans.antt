@@ -2,7 +2,7 @@
 use Rattle.std.proofs.Common.{◌≡◌, ℕ, zero, suc, ◌+◌, ◌-◌, ◌%◌, ◌^◌, ◌<◌, ◌≤◌, min, Bool, true, false, cond, not, eqb, ltb, List, [], ◌∷◌, map, length, get_or, drop, sym, refl, ap, ◌∙◌, ap₂, not-suc-le-zero, add-one, arith, drop_of_length-le, drop-cons, ltb-false, ltb-true, le-ltb, lt-ltb, eq-eqb, ne_eqb, eqb-true}
 use native.Mathlib.Nat.{zero-mod}
 use lib.ListN.{length-map, get_or-map}
-use Rattle.rows.specs.RleCodes.{cells, scan, twin, same, lone, run_length, gather_length}
+use Rattle.rows.specs.RleCodes.{cells, scan, twin, lone, run_length, gather_length}
 pub use Rattle.rows.specs.Runs.{Running}
 use Rattle.rows.specs.Words.{leading}
 use Rattle.rows.proofs.WordLaws.{leading-first, leading_all}

@@ -6,7 +6,7 @@ use Rattle.leaves.specs.Lists.{cat}
 use Rattle.leaves.specs.Put.{put}
 use Rattle.rows.specs.RleCodes.{row_codes}
 use Rattle.rows.specs.StoredRows.{row_of, source_row}
-use Rattle.rows.specs.Stream.{end_mark, stream_row, stream, is_under, counted_bytes, Counted}
+use Rattle.rows.specs.Stream.{end_mark, stream_row, is_under, counted_bytes, Counted}
 use Rattle.leaves.proofs.Puts.{put-append}
 use Rattle.rows.proofs.StreamPlaces.{cat_grows}
 

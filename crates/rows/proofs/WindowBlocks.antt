@@ -1,8 +1,8 @@
 -- The block at a place of a row, from the flags of the cells there: of each cell whether the next one is equal.
-use Rattle.std.proofs.Common.{◌≡◌, ℕ, zero, suc, ◌+◌, ◌-◌, ◌*◌, ◌/◌, ◌<◌, ◌≤◌, min, Bool, true, false, not, eqb, ◌⊎◌, List, length, get_or, drop, sym, refl, ap, ◌∙◌, subst, ap₂, inl, inr, arith, ne_eqb, eqb-true}
+use Rattle.std.proofs.Common.{◌≡◌, ℕ, zero, suc, ◌+◌, ◌-◌, ◌*◌, ◌/◌, ◌<◌, ◌≤◌, min, Bool, true, false, not, eqb, ◌⊎◌, List, length, get_or, drop, sym, refl, ap, ◌∙◌, subst, ap₂, inl, inr, arith, eqb-true}
 use borrow.Author.Tests.{eqb-false}
 use Rattle.rows.specs.declared.blocks.Block.TheVariants.{Pair, Absolute}
-use Rattle.rows.specs.RleCodes.{cells, scan, same, lone, run_length, gather_length, codes, data_bytes}
+use Rattle.rows.specs.RleCodes.{cells, scan, lone, run_length, gather_length, codes, data_bytes}
 use Rattle.rows.proofs.RleBlocks.{block_run, block_absolute, block_single, turn}
 use Rattle.rows.proofs.Scans.{scan_stop, scan_step, twin-at, Running, run_start, run_end, run_stop, run_on}
 

@@ -1,5 +1,5 @@
 -- The stream: the rows' codes in stored order, each row with its end.
-use Rattle.std.specs.Prelude.{◌≡◌, ℕ, ◌+◌, ◌-◌, Bool, true, false, cond, List, [], ◌∷◌, ◌++◌, length, ◌==◌, nat_lt}
+use Rattle.std.specs.Prelude.{◌≡◌, ℕ, ◌+◌, Bool, true, false, cond, List, [], ◌∷◌, ◌++◌, length, ◌==◌, nat_lt}
 use Rattle.rows.specs.declared.counting.StreamCount.{StreamCount}
 use Rattle.rows.specs.declared.counting.StreamCount.TheVariants.{Under, OverBudget}
 use Rattle.leaves.specs.Lists.{cat}

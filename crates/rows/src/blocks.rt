@@ -8,7 +8,7 @@ ghost use Rattle.rows.specs.Words.{word, leading};
 use crate::words::le64;
 
 // What the coder takes from a place.
-#[derive(Drop)]
+#[derive(Clone, Copy)]
 pub enum Block {
     // A count and two indices; at depth 8 the second is not written.
     Pair(usize, usize, usize),

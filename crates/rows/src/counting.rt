@@ -13,7 +13,7 @@ use crate::rle::Rle;
 use crate::windows::{charge_below, whole_runs, window_flags};
 
 // A stream's length where it is under the budget.
-#[derive(Drop)]
+#[derive(Clone, Copy)]
 pub enum StreamCount {
     Under(usize),
     OverBudget,
@@ -57,7 +57,7 @@ fn run_length(row: &[u8], at: usize, four: bool, v: usize, x: u64) -> usize
 }
 
 // Whole blocks: their bytes, and how many cells they code.
-#[derive(Drop)]
+#[derive(Clone, Copy)]
 struct Coded {
     bytes: usize,
     cells: usize,

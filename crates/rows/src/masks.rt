@@ -15,7 +15,7 @@ use leaves::buffer::{put_u16, put_u32, put_zeros};
 use leaves::types::row_stride;
 
 // A mask set resolved to each channel's place and length.
-#[derive(Drop)]
+#[derive(Clone, Copy)]
 pub struct MaskLayout {
     pub bpp: u16,
     pub r: MaskShiftLen,

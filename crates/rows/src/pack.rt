@@ -17,7 +17,7 @@ use leaves::types::row_stride;
 use leaves::widening::widening_table;
 
 // How a source row becomes a stored row.
-#[derive(Drop)]
+#[derive(Clone, Copy)]
 pub enum RowPack {
     // 32-bit cells from 4-byte pixels; `bgr` where blue comes first already.
     Bgra32 {

@@ -20,7 +20,7 @@ use leaves::encoder::EncodedBmpFormat;
 use leaves::types::{BI_RLE4, BI_RLE8};
 
 // Which of the two codings: `four` of the functions below is true for Rle4.
-#[derive(Drop)]
+#[derive(Clone, Copy)]
 pub enum Rle {
     Rle8,
     Rle4,
@@ -109,7 +109,7 @@ fn put_block(row: &[u8], i: usize, four: bool, b: Block, buf: &mut [u8], at: usi
 }
 
 // Where the writing of a row's codes has come to: a place in the row, and one in the buffer.
-#[derive(Drop)]
+#[derive(Clone, Copy)]
 struct Reached {
     cell: usize,
     place: usize,

@@ -11,7 +11,7 @@ use arguments::words::{either, end_of, item, items, part, same};
 
 pub mod write;
 
-#[derive(Drop)]
+#[derive(Clone, Copy)]
 pub enum Sheet {
     // A grid: cells in a row, rows, and all cells.
     Rows(usize, usize, usize),

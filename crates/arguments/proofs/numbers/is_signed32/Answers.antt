@@ -1,0 +1,24 @@
+use mathlib.Core.Bool.{Bool, true, false, cond}
+use mathlib.Core.List.{List}
+use mathlib.Core.Logic.{⊎_elim}
+use mathlib.Core.Path.{sym, ◌∙◌, ◌≡◌}
+use Prim.Native.Nat.{ℕ}
+use lib.Dec.{leb}
+use Rattle.arguments.specs.Numbers.{is_negative, magnitude, is_signed32}
+use Rattle.arguments.proofs.numbers.is_signed32.Goals as goal
+
+within : (text : List ℕ) (n most : ℕ) → n ≡ magnitude text → most ≡ cond (is_negative text) 0x80000000 0x7FFFFFFF → leb n most ≡ is_signed32 text
+unfolding is_signed32
+within text n most e f = rw (e, f)
+
+bound : (minus : Bool) (most : ℕ) (b : Bool) → minus ≡ b → most ≡ cond b 0x80000000 0x7FFFFFFF → most ≡ cond minus 0x80000000 0x7FFFFFFF
+bound minus most b e f = rw e f
+
+pub returns : goal.returns
+returns c =
+    let text = c.args.text.now in
+    let minus = is_negative text in
+    let is = c.is_negative.ensures in
+    let most = c.if-is_negative.most in
+    within text c.magnitude.result most c.magnitude.ensures.0
+    (⊎_elim (λ w. bound minus most true (sym is ∙ w.0.taken) w.1) (λ w. bound minus most false (sym is ∙ w.0.left) w.1) c.if-is_negative.branch)
