@@ -60,7 +60,9 @@ def turn(text, names, path, ours):
         return new
 
     def code(part):
-        return WORD.sub(lambda m: word(m, part), part)
+        # a text in quotes stays
+        pieces = re.split(r'("(?:\\.|[^"\\])*")', part)
+        return "".join(p if k % 2 else WORD.sub(lambda m, p=p: word(m, p), p) for k, p in enumerate(pieces))
 
     def remark(part):
         part = SPAN.sub(lambda m: code(m.group().replace("`", " ` ")).replace(" ` ", "`"), part)

@@ -15,7 +15,7 @@ unfolding bytes_of option_names option_named stands_alone carries_value carried 
 values_hold = refl
 
 -- layouts in any case; 10 is none
-pub formats_hold : map (λ t. format_numbered (bytes_of t)) ("Pal8" ∷ "PAL8" ∷ "pal8" ∷ "r_gb_a" ∷ "Pal4" ∷ []) ≡ 9 ∷ 9 ∷ 9 ∷ 0 ∷ 10 ∷ []
+pub formats_hold : map (λ t. format_numbered (bytes_of t)) ("Pal8" ∷ "PAL8" ∷ "pal8" ∷ "rGbA" ∷ "Pal4" ∷ []) ≡ 9 ∷ 9 ∷ 9 ∷ 0 ∷ 10 ∷ []
 unfolding bytes_of format_names format_numbered alike lowered in_case place_among
 formats_hold = refl
 

@@ -60,6 +60,6 @@ returns-in-8 c = numbered c.args.name.now c.format_number.result 8 c.format_numb
 pub returns-in_default : goal.returns-in_default
 returns-in_default c =
     let n = c.format_number.result in
-    let r = c.in_default.rest in
+    let r = c.in_default.in_default-own.rest in
     past c.args.name.now n c.format_number.ensures
     (above 8 n (above 7 n (above 6 n (above 5 n (above 4 n (above 3 n (above 2 n (above 1 n (above 0 n (omega arith) r.0.0.0.0.0.0.0.0.1) r.0.0.0.0.0.0.0.1) r.0.0.0.0.0.0.1) r.0.0.0.0.0.1) r.0.0.0.0.1) r.0.0.0.1) r.0.0.1) r.0.1) r.1)

@@ -13,4 +13,4 @@ names = refl
 
 pub returns : goal.returns
 unfolding bytes_of format_numbered
-returns c = c.IsPlace-in.ensures ∙ ap (λ (ps : List (List ℕ)). place_among ps (in_case true c.args.name.now)) names
+returns c = c.place_in.ensures ∙ ap (λ (ps : List (List ℕ)). place_among ps (in_case true c.args.name.now)) names

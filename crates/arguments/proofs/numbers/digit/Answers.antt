@@ -20,8 +20,8 @@ module _ (byte place : ℕ) (is : place ≡ 0 + length (up_to byte (bytes_of "01
 
 pub returns-then-place-lt16 : goal.returns-then-place-lt16
 unfolding bytes_of
-returns-then-place-lt16 c = (low c.args.byte c.end_of_lem.result c.end_of_lem.ensures.0 c.if-place-lt16.true, omega arith)
+returns-then-place-lt16 c = (low c.args.byte c.end_of-place.result c.end_of-place.ensures.0 c.if-place-lt16.true, omega arith)
 
 pub returns : goal.returns
 unfolding bytes_of
-returns c = (high c.args.byte c.end_of_lem.result c.end_of_lem.ensures.0 c.if-place-lt16.false, omega arith)
+returns c = (high c.args.byte c.end_of-place.result c.end_of-place.ensures.0 c.if-place-lt16.false, omega arith)

@@ -1,8 +1,7 @@
-use mathlib.Core.Logic.{⊎_elim}
 use mathlib.Core.List.{List, [], ◌∷◌}
 use mathlib.Core.Bool.{true, false, ◌||◌}
 use mathlib.Core.Path.{refl, ◌∙◌, ◌≡◌}
-use Prim.Native.Nat.{ℕ, ◌+◌, ◌-◌, ◌*◌, ◌≤◌, ◌<◌, ◌^◌}
+use Prim.Native.Nat.{ℕ, ◌+◌, ◌*◌, ◌≤◌, ◌<◌, ◌^◌}
 use native.Mathlib.Omega.{arith}
 use borrow.Author.Tests.{le-leb, lt-leb, leb-false}
 use lib.ListN.{drop_of_length-le, length, get_or, drop}
@@ -10,6 +9,7 @@ use lib.Dec.{leb}
 use Rattle.leaves.proofs.Tests.{or-first, or-second, or_neither}
 use Rattle.arguments.specs.Numbers.{digit_of, digits_from, digits_of_of}
 use Rattle.arguments.proofs.Pieces.{split}
+use Rattle.arguments.proofs.numbers.digits.Goals.{then-d-base-via-else-d-base+then-number-ge72057594037927936, then-d-base-via-then-d-base}
 use Rattle.arguments.proofs.numbers.digits.Goals as goal
 
 empty : (base : ℕ) (text : List ℕ) → length text ≡ 0 → 2 ^ 60 ≡ digits_of_of base text
@@ -49,7 +49,7 @@ returns-then-d-base c =
     let d = c.digit-d in
     let high = leb a.base d.result in
     let full = leb (2 ^ 56) l.number in
-    let bad = ⊎_elim (λ w. or-first high full (le-leb a.base d.result w.taken)) (λ w. or-second high full w.1.taken) c.then-d-base.branch in
+    let bad : (high || full) ≡ true = elim (c.then-d-base.branch) [ then-d-base-via-then-d-base w ↦ or-first high full (le-leb a.base d.result w.if-d-base.true) | then-d-base-via-else-d-base+then-number-ge72057594037927936 w ↦ or-second high full w.if-number-ge72057594037927936.true-raw ] in
     (stop a.base l.number a.text.now l.i d.result d.ensures.0 (omega arith) bad ∙ l.invariant.2, omega arith)
 
 pub appended-number-requires : goal.appended-number-requires

@@ -1,10 +1,10 @@
 use mathlib.Core.Bool.{Bool, true, false, cond}
 use mathlib.Core.List.{List}
-use mathlib.Core.Logic.{⊎_elim}
 use mathlib.Core.Path.{sym, ◌∙◌, ◌≡◌}
 use Prim.Native.Nat.{ℕ}
 use lib.Dec.{leb}
 use Rattle.arguments.specs.Numbers.{is_negative, magnitude, is_signed32}
+use Rattle.arguments.proofs.numbers.is_signed32.Goals.{else-is_negative, then-is_negative}
 use Rattle.arguments.proofs.numbers.is_signed32.Goals as goal
 
 within : (text : List ℕ) (n most : ℕ) → n ≡ magnitude text → most ≡ cond (is_negative text) 0x80000000 0x7FFFFFFF → leb n most ≡ is_signed32 text
@@ -21,4 +21,4 @@ returns c =
     let is = c.is_negative.ensures in
     let most = c.if-is_negative.most in
     within text c.magnitude.result most c.magnitude.ensures.0
-    (⊎_elim (λ w. bound minus most true (sym is ∙ w.0.taken) w.1) (λ w. bound minus most false (sym is ∙ w.0.left) w.1) c.if-is_negative.branch)
+    (elim (c.if-is_negative.branch) [ then-is_negative w ↦ bound minus most true (sym is ∙ w.if-is_negative.true) w.most-is | else-is_negative w ↦ bound minus most false (sym is ∙ w.if-is_negative.false) w.most-is ])

@@ -1,5 +1,4 @@
 use mathlib.Core.List.{List}
-use mathlib.Core.Logic.{⊎_elim}
 use mathlib.Core.Bool.{Bool, true, false, cond}
 use mathlib.Core.Path.{refl, sym, ap, ◌∙◌, ◌≡◌}
 use Prim.Native.Nat.{zero, suc, ℕ, ◌-◌, ◌≤◌, ◌<◌}
@@ -11,6 +10,7 @@ use mir.Val.{to_z}
 use mir.Syntax.{w32}
 use mir.Facts.{to_z_pos, to_z-neg}
 use Rattle.arguments.specs.Numbers.{is_negative, magnitude, is_signed32, signed32}
+use Rattle.arguments.proofs.numbers.signed32.Goals.{else-n-gt0-via-else-n-gt0, else-n-gt0-via-then-n-gt0+else-is_negative}
 use Rattle.arguments.proofs.numbers.signed32.Goals as goal
 
 none : (text : List ℕ) → is_signed32 text ≡ false → pos 0 ≡ signed32 text
@@ -67,11 +67,11 @@ overflow_cast-result c =
     let text = c.args.text.now in
     let n = c.magnitude-n in
     let good = sym c.is_signed32.ensures ∙ not-false c.is_signed32.result c.if-not-is_signed32.false-raw in
-    record { sfits = ⊎_elim (λ w. omega (arith, within text n.result n.ensures.0 good false (sym w.1.ensures ∙ w.2.left))) (λ w. omega arith) c.else-n-gt0.branch }
+    record { sfits = elim (c.else-n-gt0.branch) [ else-n-gt0-via-then-n-gt0+else-is_negative w ↦ omega (arith, within text n.result n.ensures.0 good false (sym w.is_negative.ensures ∙ w.if-is_negative.false)) | else-n-gt0-via-else-n-gt0 w ↦ omega arith ] }
 
 pub returns : goal.returns
 returns c =
     let text = c.args.text.now in
     let n = c.magnitude-n in
     let good = sym c.is_signed32.ensures ∙ not-false c.is_signed32.result c.if-not-is_signed32.false-raw in
-    ⊎_elim (λ w. positive text n.result n.ensures.0 good (sym w.1.ensures ∙ w.2.left)) (λ w. nought text n.result n.ensures.0 good w.left) c.else-n-gt0.branch
+    elim (c.else-n-gt0.branch) [ else-n-gt0-via-then-n-gt0+else-is_negative w ↦ positive text n.result n.ensures.0 good (sym w.is_negative.ensures ∙ w.if-is_negative.false) | else-n-gt0-via-else-n-gt0 w ↦ nought text n.result n.ensures.0 good w.if-n-gt0.false ]

@@ -1,10 +1,11 @@
-use mathlib.Core.Logic.{inl, inr, ⊎_elim}
+use mathlib.Core.Logic.{inl, inr}
 use mathlib.Core.Path.{sym, ap, ◌∙◌}
 use native.Mathlib.Omega.{arith}
 use borrow.Author.Tests.{ltb-true, ltb-false}
 use lib.ListN.{length}
 use Rattle.arguments.specs.Options.{is_whole}
 use Rattle.arguments.proofs.OptionLaws.{after_alone, after_value}
+use Rattle.arguments.proofs.options.after_option.Goals.{then-is_whole-via-else-is_whole+then-next-words, then-is_whole-via-then-is_whole}
 use Rattle.arguments.proofs.options.after_option.Goals as goal
 
 pub returns-then-is_whole : goal.returns-then-is_whole
@@ -14,7 +15,7 @@ returns-then-is_whole c =
     let is = c.is_whole.ensures ∙ ap is_whole c.word.ensures in (
       omega arith,
       λ h. after_alone a.words.now a.at next.result next.ensures h
-          (⊎_elim (λ w. inl (sym is ∙ w.taken)) (λ w. inr (omega (arith, ltb-true (length a.words.now) next.result w.1.taken))) c.then-is_whole.branch),
+          (elim (c.then-is_whole.branch) [ then-is_whole-via-then-is_whole w ↦ inl (sym is ∙ w.if-is_whole.true) | then-is_whole-via-else-is_whole+then-next-words w ↦ inr (omega (arith, ltb-true (length a.words.now) next.result w.if-next-words.true-raw)) ]),
     )
 
 pub after_word-requires : goal.after_word-requires

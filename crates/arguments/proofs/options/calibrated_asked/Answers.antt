@@ -38,7 +38,7 @@ returns c =
     (to_z w32 (of_z w32 e1.result)) (to_z w32 (of_z w32 e2.result)) (to_z w32 (of_z w32 e3.result))
     (to_z w32 (of_z w32 e4.result)) (to_z w32 (of_z w32 e5.result)) (to_z w32 (of_z w32 e6.result))
     (to_z w32 (of_z w32 e7.result)) (to_z w32 (of_z w32 e8.result)) c.mask-red.result c.mask-green.result c.mask-blue.result
-    (read_back e0.result (signed32 (part list 0)) e0.type-inv e0.ensures) (read_back e1.result (signed32 (part list 1)) e1.type-inv e1.ensures) (read_back e2.result (signed32 (part list 2)) e2.type-inv e2.ensures)
-    (read_back e3.result (signed32 (part list 3)) e3.type-inv e3.ensures) (read_back e4.result (signed32 (part list 4)) e4.type-inv e4.ensures) (read_back e5.result (signed32 (part list 5)) e5.type-inv e5.ensures)
-    (read_back e6.result (signed32 (part list 6)) e6.type-inv e6.ensures) (read_back e7.result (signed32 (part list 7)) e7.type-inv e7.ensures) (read_back e8.result (signed32 (part list 8)) e8.type-inv e8.ensures)
+    (read_back e0.result (signed32 (part list 0)) e0.type_inv e0.ensures) (read_back e1.result (signed32 (part list 1)) e1.type_inv e1.ensures) (read_back e2.result (signed32 (part list 2)) e2.type_inv e2.ensures)
+    (read_back e3.result (signed32 (part list 3)) e3.type_inv e3.ensures) (read_back e4.result (signed32 (part list 4)) e4.type_inv e4.ensures) (read_back e5.result (signed32 (part list 5)) e5.type_inv e5.ensures)
+    (read_back e6.result (signed32 (part list 6)) e6.type_inv e6.ensures) (read_back e7.result (signed32 (part list 7)) e7.type_inv e7.ensures) (read_back e8.result (signed32 (part list 8)) e8.type_inv e8.ensures)
     c.mask-red.ensures c.mask-green.ensures c.mask-blue.ensures

@@ -15,5 +15,5 @@ behind w to e = let n : to + 1 ≡ length (up_to 61 w) + 1 = omega arith in ap (
 pub returns : goal.returns
 returns c =
     let w = c.args.word.now in
-    let to = c.end_of_lem in
+    let to = c.end_of in
     c.part.ensures ∙ part_rest w (to.result + 1) ∙ behind w to.result to.ensures.0

@@ -9,4 +9,4 @@ use Rattle.arguments.proofs.options.carries_value.Goals as goal
 
 pub returns : goal.returns
 unfolding carries_value
-returns c = ap (λ (n : ℕ). ltb n (length c.args.word.now)) (c.end_of_lem.ensures.0 ∙ zero-add (length (up_to 61 c.args.word.now)))
+returns c = ap (λ (n : ℕ). ltb n (length c.args.word.now)) (c.end_of.ensures.0 ∙ zero-add (length (up_to 61 c.args.word.now)))

@@ -1,5 +1,4 @@
 use mathlib.Core.Path.{sym, ◌∙◌}
-use Prim.Native.Nat.{◌-◌}
 use Rattle.arguments.proofs.OptionLaws.{fault_end, fault_here, fault_later}
 use Rattle.arguments.proofs.options.first_fault.Goals as goal
 

@@ -6,4 +6,4 @@ use Rattle.arguments.proofs.options.format_asked.Goals as goal
 
 pub returns : goal.returns
 unfolding format_asked bytes_of option_names option_named place_among alike up_to
-returns c = c.format_named.ensures ∙ ap format_named c.value_of_lem.ensures
+returns c = c.format_named.ensures ∙ ap format_named c.value_of.ensures

@@ -17,7 +17,7 @@ unfolding intent_asked bytes_of option_names option_named place_among alike up_t
 usual ws e = rw e
 
 pub returns-then-is_given : goal.returns-then-is_given
-returns-then-is_given c = c.number32.ensures ∙ ap number32 c.value_of_lem.ensures ∙ asked (words_of c.args.words.now) (sym c.is_given.ensures ∙ c.if-is_given.true)
+returns-then-is_given c = c.number32.ensures ∙ ap number32 c.value_of.ensures ∙ asked (words_of c.args.words.now) (sym c.is_given.ensures ∙ c.if-is_given.true)
 
 pub returns : goal.returns
 returns c = usual (words_of c.args.words.now) (sym c.is_given.ensures ∙ c.if-is_given.false)

@@ -1,11 +1,10 @@
-use mathlib.Core.Logic.{⊎_elim}
 use mathlib.Core.Path.{sym, ap, ◌∙◌}
-use Prim.Native.Nat.{◌-◌}
 use native.Mathlib.Omega.{arith}
 use lib.ListN.{drop}
 use Rattle.arguments.specs.Words.{words_of}
 use Rattle.arguments.specs.Options.{option_named}
 use Rattle.arguments.proofs.OptionLaws.{last_start, last_end, last_here, last_other}
+use Rattle.arguments.proofs.options.last_given.Goals.{else-option_named-option, then-option_named-option}
 use Rattle.arguments.proofs.options.last_given.Invariants.{given}
 use Rattle.arguments.proofs.options.last_given.Goals as goal
 
@@ -20,12 +19,9 @@ loop-at-preserved c =
     let next = c.after_option-at in
     let option = c.option_named.ensures ∙ ap option_named c.word.ensures in
     let inside = c.loop-at-test.true in (
-      ⊎_elim (λ w. omega arith) (λ w. omega arith) c.if-option_named-option.branch,
+      elim (c.if-option_named-option.branch) [ then-option_named-option w ↦ omega arith | else-option_named-option w ↦ omega arith ],
       l.invariant.1
-          ∙ ⊎_elim
-          (λ w. last_here a.option text l.at next.result inside (next.ensures.1 inside) (words_of (drop l.last text)) (sym option ∙ w.0.taken) ∙ sym (ap (given a.option text next.result) w.1))
-          (λ w. last_other a.option text l.at next.result inside (next.ensures.1 inside) (words_of (drop l.last text)) (λ e. w.0.left (option ∙ e)) ∙ sym (ap (given a.option text next.result) w.1))
-          c.if-option_named-option.branch,
+          ∙ (elim (c.if-option_named-option.branch) [ then-option_named-option w ↦ last_here a.option text l.at next.result inside (next.ensures.1 inside) (words_of (drop l.last text)) (sym option ∙ w.if-option_named-option.true) ∙ sym (ap (given a.option text next.result) w.last-is) | else-option_named-option w ↦ last_other a.option text l.at next.result inside (next.ensures.1 inside) (words_of (drop l.last text)) (λ e. w.if-option_named-option.false (option ∙ e)) ∙ sym (ap (given a.option text next.result) w.last-is) ]),
     )
 
 pub returns : goal.returns

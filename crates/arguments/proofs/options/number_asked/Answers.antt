@@ -19,7 +19,7 @@ module _ (option usual : ℕ) (ws : List (List ℕ)) where
 pub returns-then-is_given : goal.returns-then-is_given
 returns-then-is_given c =
     let a = c.args in
-    c.number.ensures.0 ∙ ap number_of c.value_of_lem.ensures ∙ given a.option a.usual (words_of a.words.now) (sym c.is_given.ensures ∙ c.if-is_given.true)
+    c.number.ensures.0 ∙ ap number_of c.value_of.ensures ∙ given a.option a.usual (words_of a.words.now) (sym c.is_given.ensures ∙ c.if-is_given.true)
 
 pub returns : goal.returns
 returns c =

@@ -13,4 +13,4 @@ names = refl
 pub returns : goal.returns
 unfolding bytes_of option_named in_case
 returns c =
-    c.IsPlace-in.ensures ∙ ap (λ (ps : List (List ℕ)). place_among ps c.piece.result.now) names ∙ ap (place_among option_names) c.piece.ensures
+    c.place_in.ensures ∙ ap (λ (ps : List (List ℕ)). place_among ps c.piece.result.now) names ∙ ap (place_among option_names) c.piece.ensures

@@ -35,5 +35,5 @@ returns c =
     made ws c.is_given.result c.is_given-2.result c.is_given-3.result c.is_given-4.result c.is_given-5.result c.is_given-6.result
     masks.result c.intent.result calibrated.result c.number_asked.result (to_z w32 (of_z w32 across.result)) (to_z w32 (of_z w32 down.result))
     c.is_given.ensures c.is_given-2.ensures c.is_given-3.ensures c.is_given-4.ensures c.is_given-5.ensures c.is_given-6.ensures
-    (masks.ensures ∙ ap masks_asked c.value_of_lem.ensures) c.intent.ensures (calibrated.ensures ∙ ap calibrated_asked c.value_of-2.ensures)
-    c.number_asked.ensures (read_back across.result (pels_asked 0 ws) across.type-inv across.ensures) (read_back down.result (pels_asked 1 ws) down.type-inv down.ensures)
+    (masks.ensures ∙ ap masks_asked c.value_of.ensures) c.intent.ensures (calibrated.ensures ∙ ap calibrated_asked c.value_of-2.ensures)
+    c.number_asked.ensures (read_back across.result (pels_asked 0 ws) across.type_inv across.ensures) (read_back down.result (pels_asked 1 ws) down.type_inv down.ensures)

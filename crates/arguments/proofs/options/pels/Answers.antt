@@ -22,8 +22,8 @@ module _ (k : ℕ) (ws : List (List ℕ)) where
 pub returns-then-is_given : goal.returns-then-is_given
 returns-then-is_given c =
     let a = c.args in
-    let item = c.item.ensures ∙ ap (λ (list : List ℕ). item_at (items_of 44 list) a.k) c.value_of_lem.ensures in
-    read_back c.signed32.result (pels_asked a.k (words_of a.words.now)) c.signed32.type-inv
+    let item = c.item.ensures ∙ ap (λ (list : List ℕ). item_at (items_of 44 list) a.k) c.value_of.ensures in
+    read_back c.signed32.result (pels_asked a.k (words_of a.words.now)) c.signed32.type_inv
     (c.signed32.ensures ∙ ap signed32 item ∙ given a.k (words_of a.words.now) (sym c.is_given.ensures ∙ c.if-is_given.true))
 
 pub returns : goal.returns

@@ -20,7 +20,7 @@ pub returns : goal.returns
 returns c =
     let format = c.format_asked-format in
     let width = c.number32-width in
-    let height = c.number32-width in
+    let height = c.number32 in
     made (words_of c.args.words.now) format.result width.result height.result c.stride.result c.has_palette.result c.is_given.result c.is_given-2.result
-    format.ensures (width.ensures ∙ ap number32 c.value_of_lem.ensures) (height.ensures ∙ ap number32 c.value_of-2.ensures)
+    format.ensures (width.ensures ∙ ap number32 c.value_of.ensures) (height.ensures ∙ ap number32 c.value_of-2.ensures)
     c.stride.ensures c.has_palette.ensures c.is_given.ensures c.is_given-2.ensures

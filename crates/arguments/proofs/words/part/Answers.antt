@@ -1,4 +1,3 @@
-use mathlib.Core.Logic.{⊎_elim}
 use mathlib.Core.List.{List, []}
 use mathlib.Core.Bool.{Bool, false, cond, ◌&&◌}
 use mathlib.Core.Path.{◌≡◌}
@@ -8,6 +7,7 @@ use borrow.Author.Tests.{le-leb, lt-leb, leb-true}
 use lib.ListN.{take, drop, length}
 use lib.Dec.{leb}
 use Rattle.leaves.proofs.Tests.{and_first, and_second}
+use Rattle.arguments.proofs.words.part.Goals.{else-from-to-via-else-from-to, else-from-to-via-then-from-to+else-to-bytes}
 use Rattle.arguments.proofs.words.part.Goals as goal
 
 none : (inside : Bool) (xs : List ℕ) → inside ≡ false → [] ≡ cond inside xs []
@@ -27,4 +27,4 @@ returns c =
     let start = leb a.from a.to in
     let end = leb a.to (length a.bytes.now) in
     none (start && end) (take (a.to - a.from) (drop a.from a.bytes.now))
-    (⊎_elim (λ w. and_second start end w.1.left) (λ w. and_first start end (lt-leb a.from a.to w.left)) c.else-from-to.branch)
+    (elim (c.else-from-to.branch) [ else-from-to-via-then-from-to+else-to-bytes w ↦ and_second start end w.if-to-bytes.false-raw | else-from-to-via-else-from-to w ↦ and_first start end (lt-leb a.from a.to w.if-from-to.false) ])
