@@ -3,7 +3,7 @@ use mathlib.Core.Path.{◌≡◌, refl, sym, ap, ◌∙◌}
 use mathlib.Core.Logic.{◌⊎◌, inl, inr}
 use mathlib.Core.Bool.{Bool, true, false, false≢true, not, ◌&&◌, ◌||◌}
 use mathlib.Core.List.{List, [], ◌∷◌, ◌++◌}
-use Prim.Native.Nat.{ℕ, zero, suc, ◌+◌, ◌-◌, ◌*◌, ◌^◌, ◌≤◌, ◌<◌}
+use Prim.Native.Nat.{ℕ, zero, suc, ◌*◌, ◌^◌, ◌≤◌, ◌<◌}
 use native.Mathlib.Omega.{arith}
 use native.Mathlib.Nat.{not-suc-le-zero, le_of_suc-le-suc, eq-or-lt_of_le}
 use borrow.Author.Tests.{eqb-true, eqb-false, leb-false, ltb-false, not-false, eq-eqb}
@@ -18,12 +18,11 @@ use Rattle.leaves.specs.declared.error.Check.TheVariants.{Passed}
 use Rattle.leaves.specs.declared.error.Refusal.{Refusal}
 use Rattle.leaves.specs.declared.error.Refusal.TheVariants.{MaskSource, FileTooLarge, BufferTooShort, StreamOverBudget}
 use Rattle.leaves.specs.Lists.{cat}
-use Rattle.leaves.specs.Masks.{count, is_one_run, shares_bit, mask_depth, mask_rows, bitfields_rows}
+use Rattle.leaves.specs.Masks.{is_one_run, shares_bit, mask_depth, mask_rows, bitfields_rows}
 use Rattle.leaves.specs.Refusals.{first_of, profile_mode, dimension_rows, settings_rows, palette_rows, mode_rows, plane_rows}
 use Rattle.format.specs.File.{rle_planned, raw_bytes, stream_of, max_file, limit_in, budget, stream_used, stored_rows_of, file_size_of, plain_size_of}
 use Rattle.format.specs.Refusals.{file_too_large, buffer_too_short, stream_over_budget, given_masks_rows, check_rows, call_rows, plan_rows, write_rows}
 use Rattle.leaves.specs.Formats.{bytes_per_pixel, is_indexed, mask_source}
-use Rattle.format.proofs.Modes.{both}
 use Rattle.format.proofs.FileSizes.{length_rows_lem, file_fits_lem}
 use Rattle.format.proofs.Passing.{first_parts, row_parts, cat_parts, or_false, and_false}
 use Rattle.format.specs.Accepted.{MasksAccepted, Accepted}

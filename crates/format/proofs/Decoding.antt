@@ -161,9 +161,14 @@ module _ (d : ℕ) (deep : (d ≡ 4) ⊎ (d ≡ 8)) where
         let front = cat (λ s. row_and_end d (row s)) n in
         let codes = row_codes d (row n) in
         let next : List ℕ = 0 ∷ 0 ∷ rest in
-        rw (append_assoc front (codes ++ (0 ∷ 0 ∷ [])) rest, append_assoc codes (0 ∷ 0 ∷ []) rest, length-append front (codes ++ (0 ∷ 0 ∷ [])), length-append codes (0 ∷ 0 ∷ []))
-        (rows_next d w (front ++ (codes ++ next)) n rest (decode_below n (codes ++ next) (λ s h. wide s (omega arith))) (row_there n front next (wide n (omega arith)))
-        (rw (drop-append_seam front (codes ++ next)) (drop-append_seam codes next)))
+        let ended : (codes ++ (0 ∷ 0 ∷ [])) ++ rest ≡ codes ++ next = append_assoc codes (0 ∷ 0 ∷ []) rest in
+        let same : cat (λ s. row_and_end d (row s)) (suc n) ++ rest ≡ front ++ (codes ++ next) = append_assoc front (codes ++ (0 ∷ 0 ∷ [])) rest ∙ ap (λ (xs : List ℕ). front ++ xs) ended in
+        let long : length (cat (λ s. row_and_end d (row s)) (suc n)) ≡ length front + (length codes + 2) =
+        length-append front (codes ++ (0 ∷ 0 ∷ [])) ∙ ap (λ (k : ℕ). length front + k) (length-append codes (0 ∷ 0 ∷ [])) in
+        ap (λ (xs : List ℕ). rows_below d w xs (suc n)) same
+        ∙ rows_next d w (front ++ (codes ++ next)) n rest (decode_below n (codes ++ next) (λ s h. wide s (omega arith))) (row_there n front next (wide n (omega arith)))
+        (rw (drop-append_seam front (codes ++ next)) (drop-append_seam codes next))
+        ∙ ap (λ (k : ℕ). filled (cat (λ s. cells d (row s)) (suc n)) k) (sym long)
 
     -- and with the codes of the top row the stream is read, whatever follows them
     pub decode_top : (m : ℕ) (rest : List ℕ) → ((s : ℕ) → s < suc m → length (row s) ≡ w)

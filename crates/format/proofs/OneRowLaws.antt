@@ -13,7 +13,7 @@ use Rattle.leaves.specs.Lists.{tab}
 use Rattle.leaves.proofs.ListLaws.{tab_ext, get_or-tab}
 use Rattle.format.specs.Decode.{Decoded, filled, refused, read_row, rows_below, decode}
 use Rattle.format.specs.OneRow.{RowReading, shows_row, refuses_row, cell_from, coded_row, cell_bytes, row_body, row_by_fields, read_one_row}
-use Rattle.format.specs.Readers.{Reader, Reading, shows, refuses, Fields, fields_of, top_first, shown_height, knows_depth, knows_compression, pairs, row_length, five, plain_cell_of, stored_at, picture, streamed, head_needs, pixel_needs, body, read_fields, read}
+use Rattle.format.specs.Readers.{Reader, Reading, shows, refuses, Fields, fields_of, top_first, shown_height, knows_depth, knows_compression, pairs, row_length, plain_cell_of, stored_at, picture, streamed, head_needs, pixel_needs, body, read_fields, read}
 use Rattle.format.specs.Shown.{Cell, index, Cause, unknown_depth, unknown_compression, pairing, short, Shown}
 use Rattle.format.proofs.StreamReading.{decode_rows}
 

@@ -24,7 +24,7 @@ use Rattle.rows.specs.StoredRows.{stored_row, stored_rows, pack_bits, pack_bytes
 use Rattle.format.specs.Accepted.{Accepted}
 use Rattle.format.specs.Expectation.{pixel_bytes, handed, plainly_shown, fitted_shown, cell_shown, palette_shown, expected}
 use Rattle.format.specs.Input.{Input}
-use Rattle.format.specs.Readers.{shows, fields_of, top_first, shown_height, stored_at, no_cell_of, row_length, cell_word, rgb_cell, mask_cell, plain_cell_of, palette_of, picture, pixel_needs, body}
+use Rattle.format.specs.Readers.{shows, fields_of, top_first, shown_height, stored_at, no_cell_of, row_length, cell_word, rgb_cell, mask_cell, plain_cell_of, palette_of, pixel_needs, body}
 use Rattle.format.specs.Shown.{Cell}
 use Rattle.rows.proofs.AllRows.{row_at, length_row_at}
 use Rattle.format.proofs.MaskedCells.{masked_cell}

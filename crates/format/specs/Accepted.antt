@@ -1,5 +1,5 @@
 -- What is known of an accepted call, in numbers and lists.
-use Rattle.std.specs.Prelude.{ℕ, ◌+◌, ◌*◌, ◌^◌, ◌≤◌, ◌<◌, ◌≡◌, ◌⊎◌, true, false, List, length, get_or}
+use Rattle.std.specs.Prelude.{ℕ, ◌*◌, ◌^◌, ◌≤◌, ◌<◌, ◌≡◌, ◌⊎◌, true, false, List, length, get_or}
 use Rattle.std.specs.Int.Bits.{bit_and}
 use Rattle.format.specs.File.{max_file, limit_in, file_size_of}
 use Rattle.leaves.specs.Formats.{bytes_per_pixel, mask_source}

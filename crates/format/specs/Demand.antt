@@ -3,7 +3,7 @@ use Rattle.std.specs.Prelude.{ℕ, ◌≡◌, Bool, true, false, not, cond, ◌&
 use Rattle.leaves.specs.declared.image.BmpPixelFormat.{BmpPixelFormat}
 use Rattle.leaves.specs.declared.image.BmpPixelFormat.TheVariants.{Rgba, Rgb24, Bgra, Bgr24, Rgb555, Rgb565, Pal8, Indexed4, Indexed2, Indexed1}
 use Rattle.format.specs.Input.{Input}
-use Rattle.format.specs.Readers.{Reader, older, newer, Reading, shows, refuses, read}
+use Rattle.format.specs.Readers.{older, newer, Reading, shows, refuses, read}
 use Rattle.format.specs.Shown.{unknown_depth, unknown_compression}
 use Rattle.format.specs.Expectation.{expected}
 

@@ -1,5 +1,5 @@
 -- The headers, field by field in the order of Microsoft's pages. What a field holds is an argument.
-use Rattle.std.specs.Prelude.{ℕ, List, [], ◌∷◌, ◌++◌, map, ℤ, get_or}
+use Rattle.std.specs.Prelude.{ℕ, List, [], ◌∷◌, ◌++◌, map, ℤ}
 use Rattle.std.specs.Int.{w32}
 use Rattle.std.proofs.Common.{of_z}
 use Rattle.leaves.specs.Bytes.{le16, le32}

@@ -1,15 +1,12 @@
 -- Document 01's whole table, of a call, with document 02's rows of the settings and of the row starts. A limit stands where document 01 has 4,294,967,295 (A.5: "The limit
 -- replaces 4,294,967,295 in 14, 16 and the bound").
-use Rattle.std.specs.Prelude.{ℕ, ◌+◌, ◌-◌, Bool, true, false, not, cond, ◌&&◌, ◌||◌, List, [], ◌∷◌, ◌++◌, ltb, leb, length}
-use Rattle.leaves.specs.declared.image.BmpPixelFormat.{BmpPixelFormat}
-use Rattle.leaves.specs.declared.image.BmpPixelFormat.TheVariants as source
+use Rattle.std.specs.Prelude.{ℕ, ◌-◌, Bool, not, cond, ◌&&◌, ◌||◌, List, [], ◌∷◌, ◌++◌, ltb, length}
 use Rattle.leaves.specs.declared.error.Refusal.{Refusal}
 use Rattle.leaves.specs.declared.error.Refusal.TheVariants.{MaskSource, FileTooLarge, BufferTooShort, StreamOverBudget, StartsTooShort}
-use Rattle.leaves.specs.declared.error.Check.{Check}
 use Rattle.format.specs.File.{rle_planned, stream_of, budget, plain_size_of, bound_of}
 use Rattle.leaves.specs.Formats.{bytes_per_pixel, is_indexed, mask_source}
 use Rattle.leaves.specs.Masks.{bitfields_rows}
-use Rattle.leaves.specs.Refusals.{first_of, profile_mode, dimension_rows, settings_rows, palette_rows, mode_rows, plane_rows}
+use Rattle.leaves.specs.Refusals.{profile_mode, dimension_rows, settings_rows, palette_rows, mode_rows, plane_rows}
 use Rattle.format.specs.Input.{Input}
 use Rattle.leaves.specs.declared.encoder.EncodeSource.{EncodeSource}
 use Rattle.leaves.specs.declared.options.EncodeOptions.{EncodeOptions}
