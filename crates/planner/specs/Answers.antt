@@ -75,7 +75,7 @@ pub record WrittenWithStarts (i : Input) (offset : ℕ) (was later starts later_
   pub written : WrittenBy (first_of (starts_rows (limit_in i) i (length was) offset (length starts))) i offset was later answer
   pub list : later_starts ≡ starts_for (first_of (starts_rows (limit_in i) i (length was) offset (length starts))) i starts
   -- each row from its start, of the appended bytes alone
-  pub rows-shown : encoded_number answer ≡ 0 → RowsShown i (take (encoded_bytes answer) (drop offset later)) later_starts
+  pub rows_shown_is : encoded_number answer ≡ 0 → RowsShown i (take (encoded_bytes answer) (drop offset later)) later_starts
 
 -- ---- the size query: "the bound or a refusal number"
 

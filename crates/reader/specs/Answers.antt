@@ -42,22 +42,22 @@ refused_reading n = record { refusal = n; width = 0; height = 0; depth = 0; prof
 -- the later buffers, where nothing is refused: "On every input it returns what that reader shows"; "Values past those filled stay"
 pub record Shows (file head table cells later_head later_table later_cells : List ℕ) (r : Reading) : Type 0 where
   pub shown : Shown
-  pub newer-shows : read newer file ≡ shows shown
+  pub newer_shows : read newer file ≡ shows shown
   pub width : r.width ≡ shown.width
   pub height : r.height ≡ shown.height
   pub depth : r.depth ≡ (fields_of file).depth
-  pub head-filled : later_head ≡ put head 0 (head_in file)
+  pub head_filled : later_head ≡ put head 0 (head_in file)
   pub table_filled : later_table ≡ put table 0 (table_in file)
-  pub cells-filled : later_cells ≡ put cells 0 (numbers_of shown.rows)
-  pub profile-at : r.profile_at ≡ profile_at_of file
-  pub profile-bytes : r.profile_bytes ≡ profile_bytes_of file
+  pub cells_filled : later_cells ≡ put cells 0 (numbers_of shown.rows)
+  pub profile_at_is : r.profile_at ≡ profile_at_of file
+  pub profile_bytes_is : r.profile_bytes ≡ profile_bytes_of file
 
 -- "buffers unchanged", the answered numbers 0
 pub record Refuses (head table cells later_head later_table later_cells : List ℕ) (r : Reading) : Type 0 where
   pub answer : r ≡ refused_reading r.refusal
   pub same_head : later_head ≡ head
-  pub same-table : later_table ≡ table
-  pub same-cells : later_cells ≡ cells
+  pub same_table : later_table ≡ table
+  pub same_cells : later_cells ≡ cells
 
 abbrev pub Outcome : ℕ → List ℕ → List ℕ → List ℕ → List ℕ → List ℕ → List ℕ → List ℕ → Reading → Type 0
 Outcome zero file head table cells later_head later_table later_cells r = Shows file head table cells later_head later_table later_cells r
@@ -75,6 +75,6 @@ pub record ReadInto (file head table cells later_head later_table later_cells : 
   pub promise : Read file head table cells later_head later_table later_cells reading
   pub number_is : number ≡ reading.refusal
   pub width_is : width ≡ reading.width
-  pub height-is : height ≡ reading.height
+  pub height_is : height ≡ reading.height
   pub depth_is : depth ≡ reading.depth
   pub part : profile ≡ take reading.profile_bytes (drop reading.profile_at file)

@@ -1,5 +1,4 @@
 use mathlib.Core.Path.{◌∙◌}
-use Prim.Native.Nat.{◌-◌}
 use Rattle.sheets.proofs.SheetLaws.{blanks_end, blanks_over, blanks_more}
 use Rattle.sheets.proofs.after_blanks.Goals as goal
 

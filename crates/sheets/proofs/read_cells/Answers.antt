@@ -1,5 +1,4 @@
 use mathlib.Core.Path.{ap, ◌∙◌}
-use Prim.Native.Nat.{◌-◌}
 use native.Mathlib.Omega.{arith}
 use Rattle.arguments.proofs.Pieces.{part_up}
 use Rattle.sheets.specs.Sheets.{index_of}

@@ -1,5 +1,4 @@
 use mathlib.Core.Path.{sym, ◌∙◌}
-use Prim.Native.Nat.{◌-◌}
 use Rattle.sheets.proofs.SheetLaws.{separator_end, separator_here, separator_later}
 use Rattle.sheets.proofs.separator.Goals as goal
 

@@ -25,13 +25,13 @@ pub overflow_sub-behind : goal.overflow_sub-behind
 overflow_sub-behind c = let a = c.args in let d = c.in_decimal-number.result in let e = c.in_decimal-number.ensures in omega (arith, e.1)
 
 pub overflow_add-behind : goal.overflow_add-behind
-overflow_add-behind c = let a = c.args in let d = c.in_decimal-number.result in let e = c.in_decimal-number.ensures in omega (arith, number_room d.digits d.from a.n a.at (length a.text.now) e.0 e.1 e.2 c.ranges.n.fits c.requires, c.requires, c.well-formed)
+overflow_add-behind c = let a = c.args in let d = c.in_decimal-number.result in let e = c.in_decimal-number.ensures in omega (arith, number_room d.digits d.from a.n a.at (length a.text.now) e.0 e.1 e.2 c.ranges.n.fits c.requires, c.requires, c.well_formed)
 
 pub bounds-text-behind : goal.bounds-text-behind
 bounds-text-behind c = let a = c.args in let d = c.in_decimal-number.result in let e = c.in_decimal-number.ensures in omega (arith, ap length (c.put_slice.ensures ∙ ap (put a.text.now a.at) (digits_part d.digits d.from a.n e.0 e.1 e.2)), length-put a.text.now a.at (decimal a.n) (omega (arith, (digits-length d.digits d.from a.n e.0 e.1 e.2), number_room d.digits d.from a.n a.at (length a.text.now) e.0 e.1 e.2 c.ranges.n.fits c.requires, c.requires)), number_room d.digits d.from a.n a.at (length a.text.now) e.0 e.1 e.2 c.ranges.n.fits c.requires, c.requires)
 
 pub overflow_add-result : goal.overflow_add-result
-overflow_add-result c = let a = c.args in let d = c.in_decimal-number.result in let e = c.in_decimal-number.ensures in omega (arith, number_room d.digits d.from a.n a.at (length a.text.now) e.0 e.1 e.2 c.ranges.n.fits c.requires, c.requires, c.well-formed)
+overflow_add-result c = let a = c.args in let d = c.in_decimal-number.result in let e = c.in_decimal-number.ensures in omega (arith, number_room d.digits d.from a.n a.at (length a.text.now) e.0 e.1 e.2 c.ranges.n.fits c.requires, c.requires, c.well_formed)
 
 pub shape_of-text : goal.shape_of-text
 shape_of-text c = let a = c.args in let d = c.in_decimal-number.result in let e = c.in_decimal-number.ensures in let k = number_room d.digits d.from a.n a.at (length a.text.now) e.0 e.1 e.2 c.ranges.n.fits c.requires in length-set c.put_slice.new.buf (a.at + (20 - d.from)) a.mark ∙ ap length (c.put_slice.ensures ∙ ap (put a.text.now a.at) (digits_part d.digits d.from a.n e.0 e.1 e.2)) ∙ length-put a.text.now a.at (decimal a.n) (omega (arith, (digits-length d.digits d.from a.n e.0 e.1 e.2), k, c.requires))

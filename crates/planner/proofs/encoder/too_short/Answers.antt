@@ -1,0 +1,9 @@
+use Prim.Native.Nat.{◌-◌}
+use borrow.Author.Tests.{lt-ltb, le-ltb}
+use Rattle.planner.proofs.encoder.too_short.Goals as goal
+
+pub returns-then-room-offset : goal.returns-then-room-offset
+returns-then-room-offset c = rw (lt-ltb c.args.room c.args.offset c.if-room-offset.true)
+
+pub returns : goal.returns
+returns c = rw (le-ltb c.args.room c.args.offset c.if-room-offset.false)

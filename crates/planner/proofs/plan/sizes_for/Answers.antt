@@ -1,0 +1,39 @@
+use mathlib.Core.Path.{◌≡◌, sym, ap, ◌∙◌}
+use mathlib.Core.Bool.{cond}
+use Prim.Native.Nat.{ℕ, ◌+◌, ◌*◌, ◌≤◌, max}
+use borrow.Author.Tests.{leb-true}
+use native.Mathlib.Omega.{arith}
+use Rattle.planner.proofs.PlanLaws.{stream_plan, rows_plan, no_plan}
+use Rattle.planner.proofs.plan.sizes_for.Goals.{else-file_fits, then-file_fits}
+use Rattle.planner.proofs.plan.sizes_for.Goals as goal
+
+pub overflow_add-bound : goal.overflow_add-bound
+overflow_add-bound c =
+    let a = c.args in
+    let most : c.if-file_fits.fallback ≤ a.raw = elim (c.if-file_fits.branch) [ then-file_fits w ↦ omega (arith, w.fallback-is) | else-file_fits w ↦ omega (arith, w.fallback-is) ] in
+    record { fits = omega (arith, c.larger.ensures, c.budget-rle_budget.ensures, most) }
+
+pub returns-then-is_stream : goal.returns-then-is_stream
+returns-then-is_stream c =
+    let a = c.args in
+    let stream = sym c.is_stream.ensures ∙ c.if-is_stream.true in
+    let least : c.if-file_fits.fallback ≡ cond c.fits2.result a.raw 0 = elim (c.if-file_fits.branch) [ then-file_fits w ↦ rw w.if-file_fits.true w.fallback-is | else-file_fits w ↦ rw w.if-file_fits.false w.fallback-is ] in
+    stream_plan a.limit a.head a.raw a.profile_bytes a.width c.budget-rle_budget.result (a.head + c.larger.result) a.layout c.fits2.result stream (c.requires.profile_bytes_value stream)
+    c.fits2.ensures c.budget-rle_budget.ensures (ap (λ (n : ℕ). a.head + n) (c.larger.ensures ∙ ap (max (c.budget-rle_budget.result + 2 * a.width + 2)) least))
+
+pub overflow_add-file : goal.overflow_add-file
+overflow_add-file c =
+    let a = c.args in
+    let all = leb-true (a.head + a.raw + a.profile_bytes) a.limit (sym c.fits2.ensures ∙ c.if-file_fits-2.true) in
+    record { fits = omega (arith, all, c.requires.limit_le_max_file) }
+
+pub returns-then-file_fits-2 : goal.returns-then-file_fits-2
+returns-then-file_fits-2 c =
+    let a = c.args in
+    rows_plan a.limit a.head a.raw a.profile_bytes a.width c.budget-rle_budget.result a.layout c.fits2.result (sym c.is_stream.ensures ∙ c.if-is_stream.false)
+    c.fits2.ensures c.if-file_fits-2.true c.budget-rle_budget.ensures
+
+pub returns : goal.returns
+returns c =
+    let a = c.args in
+    no_plan a.limit a.head a.raw a.profile_bytes a.width a.layout c.fits2.result (sym c.is_stream.ensures ∙ c.if-is_stream.false) c.fits2.ensures c.if-file_fits-2.false
