@@ -29,7 +29,7 @@ use Rattle.format.specs.declared.layout.Layout.{Layout}
 use Rattle.format.specs.declared.layout.Mode.TheVariants.{Plain}
 use Rattle.format.specs.File.{mode_in, depth_in, pack_in, rle_planned, raw_bytes, entries_of, head_bytes_of, tail_of, stream_of, max_file, limit_in, budget, stream_used, stored_rows_of, pixels, table_entry, colour_table, stored_height_of, compression_of, image_size_of, x_pels_in, y_pels_in, head_of, file_size_of, file_of, plain_size_of, format_of}
 use Rattle.format.specs.Input.{Input}
-use Rattle.format.specs.Layout.{header_size_of, head_rest, head_len, raw_len, rows_compression, rows_format, coding_at, is_stream, coded, coding_of, layout_of}
+use Rattle.format.specs.Layout.{header_size_of, head_rest, head_len, raw_len, rows_compression, rows_format, coding_at, is_stream, coding_of, layout_of}
 use Rattle.format.specs.Starts.{row_start}
 use Rattle.format.proofs.Acceptance.{Checked, rows_long, plan_passed}
 use Rattle.format.proofs.FileSizes.{pack_ok, rows_pixels}

@@ -12,7 +12,6 @@ use Rattle.leaves.specs.Bytes.{le32}
 use Rattle.leaves.specs.Formats.{is_rgb565}
 use Rattle.leaves.specs.Lists.{cat}
 use Rattle.leaves.specs.Put.{put}
-use Rattle.leaves.specs.Sizes.{clr_used_of}
 use Rattle.format.specs.declared.layout.Layout.{Layout}
 use Rattle.format.specs.declared.layout.Mode.{Mode}
 use Rattle.format.specs.declared.layout.Mode.TheVariants.{Masked, Calibrated, Profiled, Plain}
@@ -23,7 +22,7 @@ use Rattle.leaves.proofs.Puts.{put-nil}
 use Rattle.format.proofs.HeadFields.{length-file_header, length-info_header, rest_length}
 use Rattle.format.proofs.HeadTable.{v4_length, four_masks, longs-length}
 use Rattle.planner.specs.declared.heads.FirstFields.{FirstFields}
-use Rattle.planner.specs.Plans.{first_fields, rest_len, head_by}
+use Rattle.planner.specs.Plans.{first_fields, rest_len}
 use Rattle.planner.proofs.HeadLaws.{put_next}
 
 -- ---- what stands between the first 40 bytes of the info header and the colour table

@@ -10,7 +10,6 @@ use lib.ListN.{length, get_or}
 use Rattle.leaves.specs.declared.bitfields.MaskShiftLen.{MaskShiftLen}
 use Rattle.leaves.specs.declared.encoder.EncodeSource.{EncodeSource}
 use Rattle.leaves.specs.declared.encoder.EncodedBmpFormat.{EncodedBmpFormat}
-use Rattle.leaves.specs.declared.image.BmpPixelFormat.{BmpPixelFormat}
 use Rattle.leaves.specs.declared.options.EncodeOptions.{EncodeOptions}
 use Rattle.leaves.specs.Formats.{bits_per_pixel, is_rgb565, plain_token}
 use Rattle.leaves.specs.Masks.{count, lowest, is_one_run, has_alpha_mask, mask_compression, ShiftLen}
@@ -18,7 +17,6 @@ use Rattle.rows.specs.declared.masks.MaskLayout.{MaskLayout}
 use Rattle.rows.specs.declared.pack.RowPack.{RowPack}
 use Rattle.format.specs.declared.layout.Coding.{Coding}
 use Rattle.format.specs.declared.layout.Coding.TheVariants.{Stream, Nothing}
-use Rattle.format.specs.declared.layout.Layout.{Layout}
 use Rattle.format.specs.declared.layout.Mode.{Mode}
 use Rattle.format.specs.declared.layout.Mode.TheVariants.{Masked, Calibrated, Profiled, Plain}
 use Rattle.format.specs.Layout.{mode_of, is_masked, is_plain, depth_of, channel_of, channels_of, plain_pack, mask_pack, pack_of, table_entries, header_size_of, head_rest, head_len, plain_compression, rows_compression, mask_format, rows_format, coding_at, is_stream, coded, wants_rle, coding_of, layout_of}

@@ -1,7 +1,7 @@
 -- The plan: the checks in a row, the sizes, and what a plan says.
 use mathlib.Core.Path.{◌≡◌, refl, sym, ap, ◌∙◌}
 use mathlib.Core.Bool.{Bool, true, false, not, cond, ◌&&◌, false≢true}
-use mathlib.Core.List.{List, [], ◌∷◌, ◌++◌}
+use mathlib.Core.List.{List, [], ◌∷◌}
 use Prim.Native.Nat.{ℕ, ◌+◌, ◌-◌, ◌*◌, ◌≤◌, ◌<◌, min, max}
 use native.Mathlib.Nat.{mul-le-mul}
 use native.Mathlib.Omega.{arith}
@@ -14,14 +14,14 @@ use Rattle.leaves.specs.declared.error.Check.{Check}
 use Rattle.leaves.specs.declared.error.Check.TheVariants as check
 use Rattle.leaves.specs.declared.error.Refusal.{Refusal}
 use Rattle.leaves.specs.declared.error.Refusal.TheVariants.{FileTooLarge}
-use Rattle.leaves.specs.Refusals.{check_number, first_of, or_else}
+use Rattle.leaves.specs.Refusals.{check_number, first_of}
 use Rattle.leaves.specs.Sizes.{row_stride}
-use Rattle.leaves.proofs.FirstOf.{first-or, first_pass, first_stop, check_determined}
+use Rattle.leaves.proofs.FirstOf.{first_pass, first_stop, check_determined}
 use Rattle.format.specs.declared.layout.Layout.{Layout}
-use Rattle.format.specs.File.{depth_in, raw_bytes, head_bytes_of, tail_of, rle_planned, limit_in, plain_size_of, budget, bound_of}
+use Rattle.format.specs.File.{tail_of, rle_planned, limit_in, plain_size_of, budget, bound_of}
 use Rattle.format.specs.Input.{Input}
 use Rattle.format.specs.Layout.{is_stream, depth_of, raw_len, head_len, wants_rle, layout_of}
-use Rattle.format.specs.Refusals.{file_too_large, check_rows, call_rows, plan_rows}
+use Rattle.format.specs.Refusals.{file_too_large, check_rows, plan_rows}
 use Rattle.format.proofs.Acceptance.{ChecksPassed}
 use Rattle.format.proofs.HeadFields.{depth_le}
 use Rattle.format.proofs.Modes.{planned_in, no_tail}

@@ -14,10 +14,9 @@ use Rattle.rows.specs.declared.counting.StreamCount.{StreamCount}
 use Rattle.rows.specs.declared.counting.StreamCount.TheVariants.{Under, OverBudget}
 use Rattle.rows.specs.RleCodes.{is_rle4, depth_of}
 use Rattle.rows.specs.Stream.{stream, is_under, counted_bytes, Counted}
-use Rattle.format.specs.declared.layout.Coding.{Coding}
 use Rattle.format.specs.declared.layout.Coding.TheVariants.{Stream, Nothing}
 use Rattle.format.specs.declared.layout.Layout.{Layout}
-use Rattle.format.specs.File.{rle_planned, raw_bytes, head_bytes_of, stream_of, max_file, limit_in, budget, stream_used, plain_size_of, bound_of}
+use Rattle.format.specs.File.{rle_planned, raw_bytes, head_bytes_of, stream_of, max_file, limit_in, budget, stream_used, plain_size_of}
 use Rattle.format.specs.Input.{Input}
 use Rattle.format.specs.Layout.{is_stream, layout_of}
 use Rattle.format.specs.Refusals.{file_too_large, stream_over_budget}
@@ -26,7 +25,7 @@ use Rattle.format.proofs.Modes.{planned_in, no_tail}
 use Rattle.planner.specs.declared.encoder.Encoded.{Encoded}
 use Rattle.planner.specs.declared.plan.Sizes.{Sizes}
 use Rattle.planner.specs.Answers.{later_for}
-use Rattle.planner.specs.Plans.{sizes_by, sizes_of, Planned, Streamed, encoded_for, stream_check, noted_for}
+use Rattle.planner.specs.Plans.{sizes_by, Planned, Streamed, encoded_for, stream_check, noted_for}
 use Rattle.planner.proofs.FileWrites.{sizes_head, sizes_raw, sizes_file, sizes_parts, stream_planned, stream-coded}
 use Rattle.planner.proofs.LayoutLaws.{coding_planned}
 

@@ -1,7 +1,4 @@
 use mathlib.Core.Path.{refl, sym, ap, ◌∙◌}
-use Prim.Native.Nat.{ℕ}
-use borrow.Author.Rules.{length_unmapped}
-use lib.IntN.{ℤ}
 use lib.ListN.{length}
 use Rattle.leaves.specs.declared.error.Check.{Check}
 use Rattle.leaves.specs.declared.error.Refusal.TheVariants.{BufferTooShort, StartsTooShort}
@@ -75,8 +72,8 @@ returns c =
     let p = plan_ready i c.plan_for-plan.result (length t.result.now) (ap length own) c.plan_for-plan.ensures c.in-Ready.layout c.in-Ready.sizes c.in-Ready.is in
     let r = room_left i (length a.out.now) a.offset (length a.starts.now) a.needed c.in-Ready.sizes.bound c.too_short.result p.passed (plan_bound_lem i c.in-Ready.sizes p.sizes_are) c.too_short.ensures c.if-too_short.false in
     let types = c.well_formed.1.0.1.1.1.1.1.1.1.1.1.1.0.1.1 in
-    let nine = length_unmapped ℤ a.options.calibrated_rgb.endpoints 9 types.0.1.0.1 in
-    let three = length_unmapped ℕ a.options.calibrated_rgb.gamma 3 types.1.0.1.0.1 in
+    let nine = types.0.1.0.1 in
+    let three = types.1.0.1.0.1 in
     let w = c.write_into in
     let outcome = starts_left i (length a.out.now) a.offset (length a.starts.now) a.needed r c.if-starts-needed.false in
     let decides = first_of (list_rows a.options.limit i (length a.out.now) a.offset (length a.starts.now) a.needed) in

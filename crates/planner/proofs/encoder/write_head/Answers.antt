@@ -1,8 +1,6 @@
 use mathlib.Core.Path.{◌∙◌, refl}
-use Prim.Native.Nat.{ℕ, ◌+◌, ◌-◌, ◌*◌}
+use Prim.Native.Nat.{◌+◌, ◌-◌, ◌*◌}
 use native.Mathlib.Omega.{arith}
-use borrow.Author.Rules.{length_unmapped}
-use lib.IntN.{ℤ}
 use Rattle.leaves.specs.Put.{put}
 use mathlib.Core.List.{◌++◌}
 use Rattle.leaves.specs.Lists.{cat}
@@ -20,8 +18,8 @@ pub write_rest-requires : goal.write_rest-requires
 write_rest-requires c =
     let a = c.args in
     let g = c.well_formed.1.1.0.1.1.1.1.1.1.1.1.1.1.0.1.1 in
-    let nine = length_unmapped ℤ a.options.calibrated_rgb.endpoints 9 g.0.1.0.1 in
-    let three = length_unmapped ℕ a.options.calibrated_rgb.gamma 3 g.1.0.1.0.1 in
+    let nine = g.0.1.0.1 in
+    let three = g.1.0.1.0.1 in
     let rest = rest_room a.layout.mode a.src a.options nine three in
     omega (arith, rest, c.requires.head_value, c.requires.head_in_bounds, c.write_first_fields.auto.buf)
 

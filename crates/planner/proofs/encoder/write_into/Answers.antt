@@ -64,7 +64,10 @@ write_rows-requires c =
     let a = c.args in
     let i = chosen a.src a.options a.plane.now a.palette.now a.profile.now in
     let p = c.requires.planned in
-    let g : RowsFit i a.sizes = elim (c.match-coding.branch) [ in-Stream+in_default-count+else-not-sizes w ↦ rows_instead i a.layout a.sizes p w.rle_len-count.given.0.0 w.struct_known-1.result w.rle_len-count.given.1 w.struct_known-1.ensures w.5.given.1 (not-false a.sizes.file_fits w.7.left) | in_default w ↦ rows_alone i a.layout a.sizes p w.in_default.1.given.1 ] in
+    let g : RowsFit i a.sizes = elim (c.match-coding.branch) [
+      | in-Stream+in_default-count+else-not-sizes w ↦ rows_instead i a.layout a.sizes p w.in-Stream.rle w.rle_len-count.result w.in-Stream.is w.rle_len-count.ensures w.in_default-count.is (not-false a.sizes.file_fits w.if-not-sizes.false)
+      | in_default w ↦ rows_alone i a.layout a.sizes p w.in_default.is
+    ] in
     record { planned = p; profile_value = g.unused; profile_value_2 = c.requires.profile_value; file_le_max_file = g.fits; file_in_bounds = omega (arith, g.room, c.requires.bound_in_bounds) }
 
 pub returns : goal.returns
@@ -72,6 +75,9 @@ returns c =
     let a = c.args in
     let i = chosen a.src a.options a.plane.now a.palette.now a.profile.now in
     let p = c.requires.planned in
-    let g : RowsFit i a.sizes = elim (c.match-coding.branch) [ in-Stream+in_default-count+else-not-sizes w ↦ rows_instead i a.layout a.sizes p w.rle_len-count.given.0.0 w.struct_known-1.result w.rle_len-count.given.1 w.struct_known-1.ensures w.5.given.1 (not-false a.sizes.file_fits w.7.left) | in_default w ↦ rows_alone i a.layout a.sizes p w.in_default.1.given.1 ] in
+    let g : RowsFit i a.sizes = elim (c.match-coding.branch) [
+      | in-Stream+in_default-count+else-not-sizes w ↦ rows_instead i a.layout a.sizes p w.in-Stream.rle w.rle_len-count.result w.in-Stream.is w.rle_len-count.ensures w.in_default-count.is (not-false a.sizes.file_fits w.if-not-sizes.false)
+      | in_default w ↦ rows_alone i a.layout a.sizes p w.in_default.is
+    ] in
     let w = c.write_rows in
     record { value = answer_by i false g.over w.result w.ensures.value; buf_after = later_by i false g.over a.at a.buf.now w.new.buf w.ensures.buf_after; starts_after = noted_by i false g.over a.starts.now w.new.starts w.ensures.starts_after }

@@ -1,9 +1,6 @@
 use mathlib.Core.Path.{ap, ◌∙◌}
 use mathlib.Core.Bool.{cond}
-use Prim.Native.Nat.{ℕ}
 use native.Mathlib.Omega.{arith}
-use borrow.Author.Rules.{length_unmapped}
-use lib.IntN.{ℤ}
 use Rattle.leaves.specs.Masks.{has_alpha_mask}
 use Rattle.format.specs.declared.layout.Layout.{Layout}
 use Rattle.format.specs.Layout.{is_masked, layout_of}
@@ -15,8 +12,8 @@ unfolding layout_of
 overflow_add-result-2 c =
     let a = c.args in
     let g = c.well_formed.1.1.0.1.1.1.1.1.1.1.1.1.1.0.1.1 in
-    let nine = length_unmapped ℤ a.options.calibrated_rgb.endpoints 9 g.0.1.0.1 in
-    let three = length_unmapped ℕ a.options.calibrated_rgb.gamma 3 g.1.0.1.0.1 in
+    let nine = g.0.1.0.1 in
+    let three = g.1.0.1.0.1 in
     let size = ap (λ (l : Layout). l.header_size) c.requires in
     let entries = ap (λ (l : Layout). l.entries) c.requires in
     let masks = c.mask_bytes.ensures ∙ ap (λ (l : Layout). cond (is_masked l.mode) (cond (has_alpha_mask a.options.bitfields.masks) 16 12) 0) c.requires in
@@ -28,8 +25,8 @@ unfolding layout_of
 overflow_mul-result c =
     let a = c.args in
     let g = c.well_formed.1.1.0.1.1.1.1.1.1.1.1.1.1.0.1.1 in
-    let nine = length_unmapped ℤ a.options.calibrated_rgb.endpoints 9 g.0.1.0.1 in
-    let three = length_unmapped ℕ a.options.calibrated_rgb.gamma 3 g.1.0.1.0.1 in
+    let nine = g.0.1.0.1 in
+    let three = g.1.0.1.0.1 in
     let size = ap (λ (l : Layout). l.header_size) c.requires in
     let entries = ap (λ (l : Layout). l.entries) c.requires in
     let masks = c.mask_bytes.ensures ∙ ap (λ (l : Layout). cond (is_masked l.mode) (cond (has_alpha_mask a.options.bitfields.masks) 16 12) 0) c.requires in
@@ -41,8 +38,8 @@ unfolding layout_of
 overflow_add-result-3 c =
     let a = c.args in
     let g = c.well_formed.1.1.0.1.1.1.1.1.1.1.1.1.1.0.1.1 in
-    let nine = length_unmapped ℤ a.options.calibrated_rgb.endpoints 9 g.0.1.0.1 in
-    let three = length_unmapped ℕ a.options.calibrated_rgb.gamma 3 g.1.0.1.0.1 in
+    let nine = g.0.1.0.1 in
+    let three = g.1.0.1.0.1 in
     let size = ap (λ (l : Layout). l.header_size) c.requires in
     let entries = ap (λ (l : Layout). l.entries) c.requires in
     let masks = c.mask_bytes.ensures ∙ ap (λ (l : Layout). cond (is_masked l.mode) (cond (has_alpha_mask a.options.bitfields.masks) 16 12) 0) c.requires in
@@ -54,8 +51,8 @@ unfolding layout_of
 returns c =
     let a = c.args in
     let g = c.well_formed.1.1.0.1.1.1.1.1.1.1.1.1.1.0.1.1 in
-    let nine = length_unmapped ℤ a.options.calibrated_rgb.endpoints 9 g.0.1.0.1 in
-    let three = length_unmapped ℕ a.options.calibrated_rgb.gamma 3 g.1.0.1.0.1 in
+    let nine = g.0.1.0.1 in
+    let three = g.1.0.1.0.1 in
     let size = ap (λ (l : Layout). l.header_size) c.requires in
     let entries = ap (λ (l : Layout). l.entries) c.requires in
     let masks = c.mask_bytes.ensures ∙ ap (λ (l : Layout). cond (is_masked l.mode) (cond (has_alpha_mask a.options.bitfields.masks) 16 12) 0) c.requires in

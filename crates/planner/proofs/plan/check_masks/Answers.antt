@@ -1,4 +1,3 @@
-use mathlib.Core.Bool.{true}
 use mathlib.Core.List.{[], ◌∷◌}
 use Rattle.leaves.specs.declared.error.Refusal.TheVariants.{MaskSource}
 use Rattle.leaves.specs.Formats.{mask_source}

@@ -17,23 +17,23 @@ pub returns-then-is_stream : goal.returns-then-is_stream
 returns-then-is_stream c =
     let a = c.args in
     let stream = sym c.is_stream.ensures ∙ c.if-is_stream.true in
-    let least : c.if-file_fits.fallback ≡ cond c.fits2.result a.raw 0 = elim (c.if-file_fits.branch) [ then-file_fits w ↦ rw w.if-file_fits.true w.fallback-is | else-file_fits w ↦ rw w.if-file_fits.false w.fallback-is ] in
-    stream_plan a.limit a.head a.raw a.profile_bytes a.width c.budget-rle_budget.result (a.head + c.larger.result) a.layout c.fits2.result stream (c.requires.profile_bytes_value stream)
-    c.fits2.ensures c.budget-rle_budget.ensures (ap (λ (n : ℕ). a.head + n) (c.larger.ensures ∙ ap (max (c.budget-rle_budget.result + 2 * a.width + 2)) least))
+    let least : c.if-file_fits.fallback ≡ cond c.fits-file_fits.result a.raw 0 = elim (c.if-file_fits.branch) [ then-file_fits w ↦ rw w.if-file_fits.true w.fallback-is | else-file_fits w ↦ rw w.if-file_fits.false w.fallback-is ] in
+    stream_plan a.limit a.head a.raw a.profile_bytes a.width c.budget-rle_budget.result (a.head + c.larger.result) a.layout c.fits-file_fits.result stream (c.requires.profile_bytes_value stream)
+    c.fits-file_fits.ensures c.budget-rle_budget.ensures (ap (λ (n : ℕ). a.head + n) (c.larger.ensures ∙ ap (max (c.budget-rle_budget.result + 2 * a.width + 2)) least))
 
 pub overflow_add-file : goal.overflow_add-file
 overflow_add-file c =
     let a = c.args in
-    let all = leb-true (a.head + a.raw + a.profile_bytes) a.limit (sym c.fits2.ensures ∙ c.if-file_fits-2.true) in
+    let all = leb-true (a.head + a.raw + a.profile_bytes) a.limit (sym c.fits-file_fits.ensures ∙ c.if-file_fits-2.true) in
     record { fits = omega (arith, all, c.requires.limit_le_max_file) }
 
 pub returns-then-file_fits-2 : goal.returns-then-file_fits-2
 returns-then-file_fits-2 c =
     let a = c.args in
-    rows_plan a.limit a.head a.raw a.profile_bytes a.width c.budget-rle_budget.result a.layout c.fits2.result (sym c.is_stream.ensures ∙ c.if-is_stream.false)
-    c.fits2.ensures c.if-file_fits-2.true c.budget-rle_budget.ensures
+    rows_plan a.limit a.head a.raw a.profile_bytes a.width c.budget-rle_budget.result a.layout c.fits-file_fits.result (sym c.is_stream.ensures ∙ c.if-is_stream.false)
+    c.fits-file_fits.ensures c.if-file_fits-2.true c.budget-rle_budget.ensures
 
 pub returns : goal.returns
 returns c =
     let a = c.args in
-    no_plan a.limit a.head a.raw a.profile_bytes a.width a.layout c.fits2.result (sym c.is_stream.ensures ∙ c.if-is_stream.false) c.fits2.ensures c.if-file_fits-2.false
+    no_plan a.limit a.head a.raw a.profile_bytes a.width a.layout c.fits-file_fits.result (sym c.is_stream.ensures ∙ c.if-is_stream.false) c.fits-file_fits.ensures c.if-file_fits-2.false
