@@ -1,7 +1,7 @@
 -- Quotes and scales by their bits: what is answered, and the later plane. One list, by evaluation.
 use mathlib.Core.Path.{◌≡◌, refl}
-use mathlib.Core.Bool.{Bool, true, false}
-use mathlib.Core.List.{List, [], ◌∷◌, ◌++◌, map}
+use mathlib.Core.Bool.{true, false}
+use mathlib.Core.List.{List, [], ◌∷◌, map}
 use Prim.Native.Nat.{ℕ}
 use lib.Count.{count_trailing_zeros}
 use lib.IntN.{pos}

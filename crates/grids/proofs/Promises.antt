@@ -2,18 +2,15 @@
 -- before them is its quote's index.
 use mathlib.Core.Path.{◌≡◌, refl, sym, ap, ◌∙◌}
 use mathlib.Core.Bool.{Bool, true, false, cond}
-use mathlib.Core.List.{List, ◌++◌}
-use Prim.Native.Nat.{ℕ, zero, suc, ◌+◌, ◌≤◌, ◌<◌}
+use mathlib.Core.List.{List}
+use Prim.Native.Nat.{ℕ, zero, suc, ◌+◌, ◌<◌}
 use native.Mathlib.Omega.{arith}
-use borrow.Author.Tests.{ltb-false}
-use lib.Dec.{ltb, eqb}
+use lib.Dec.{eqb}
 use lib.Ieee.{Float}
 use lib.ListN.{length, get_or, drop, get_or-append}
 use Rattle.leaves.specs.Put.{put}
-use Rattle.leaves.specs.Refusals.{first_applying}
 use Rattle.leaves.proofs.ListLaws.{get_or-tab}
 use Rattle.leaves.proofs.Puts.{after_put}
-use Rattle.format.proofs.Passing.{or_false}
 use Rattle.grids.specs.declared.scale.Quote.{Quote}
 use Rattle.grids.specs.Scale.{shade_of, index_of, quote_at, indices_of, lists_too_short, not_scale, some_not_quote, quote_rows, later_plane, Shaded}
 use Rattle.grids.proofs.Placing.{length_indices}

@@ -1,6 +1,6 @@
 -- The plane so painted and written as Pal8 shows, in both readers, the shade or 255 of each quote.
 use mathlib.Core.Path.{◌≡◌, refl, sym, ap, ◌∙◌}
-use mathlib.Core.Bool.{Bool, true, false, true≢false, cond}
+use mathlib.Core.Bool.{Bool, true, false, true≢false}
 use mathlib.Core.List.{List, []}
 use Prim.Native.Nat.{ℕ, ◌+◌, ◌*◌, ◌%◌, ◌<◌}
 use native.Mathlib.Nat.{mod-eq_of_lt}
@@ -8,16 +8,15 @@ use native.Mathlib.Omega.{arith}
 use lib.Ieee.{Float}
 use lib.ListN.{length, get_or, take, drop}
 use Rattle.leaves.specs.declared.error.Check.TheVariants.{Passed}
-use Rattle.leaves.specs.declared.image.BmpPixelFormat.{BmpPixelFormat}
 use Rattle.leaves.specs.declared.image.BmpPixelFormat.TheVariants.{Pal8}
 use Rattle.leaves.specs.Formats.{mask_source}
 use Rattle.leaves.specs.Lists.{tab}
 use Rattle.leaves.specs.Refusals.{first_of}
 use Rattle.format.specs.Demand.{older_reads}
-use Rattle.format.specs.Expectation.{pixel_bytes, handed, plainly_shown, cell_shown, expected}
+use Rattle.format.specs.Expectation.{handed, plainly_shown, cell_shown, expected}
 use Rattle.format.specs.File.{limit_in}
 use Rattle.format.specs.Input.{Input}
-use Rattle.format.specs.Readers.{Reading, shows}
+use Rattle.format.specs.Readers.{shows}
 use Rattle.format.specs.Refusals.{write_rows}
 use Rattle.format.specs.Shown.{Cell, index}
 use Rattle.planner.specs.declared.encoder.Encoded.{Encoded}

@@ -12,7 +12,7 @@ use Rattle.leaves.specs.Lists.{tab, cat}
 use Rattle.leaves.proofs.ListLaws.{cat_ext}
 use Rattle.format.specs.Decode.{Decoded, filled, refused, decode}
 use Rattle.format.specs.OneRow.{row_body, row_by_fields, read_one_row}
-use Rattle.format.specs.Readers.{Fields, fields_of, newer, shows, refuses, shown_height, table_count, knows_depth, knows_compression, pairs, row_length, stored_at, plain_cell_of, palette_of, picture, streamed, head_needs, pixel_needs, body, read_fields, read}
+use Rattle.format.specs.Readers.{Fields, fields_of, newer, shows, shown_height, table_count, knows_depth, knows_compression, pairs, row_length, stored_at, plain_cell_of, palette_of, picture, streamed, head_needs, pixel_needs, body, read_fields, read}
 use Rattle.format.specs.Shown.{Cell, index, Shown}
 use Rattle.format.proofs.Passing.{or_false, and_false}
 use Rattle.format.proofs.Pictures.{some_cell}

@@ -23,7 +23,7 @@ use Rattle.format.specs.Expectation.{expected}
 use Rattle.format.specs.File.{mode_in, depth_in, raw_bytes, entries_of, head_bytes_of, tail_of, limit_in, stream_used, pixels, colour_table, compression_of, file_size_of, file_of}
 use Rattle.format.specs.Input.{Input}
 use Rattle.format.specs.Layout.{rows_compression, head_rest, header_size_of, raw_len}
-use Rattle.format.specs.Readers.{Fields, fields_of, newer, Reading, shows, refuses, shown_height, table_count, row_length, head_needs, streamed, body, read}
+use Rattle.format.specs.Readers.{Fields, fields_of, newer, shows, refuses, shown_height, table_count, row_length, head_needs, streamed, body, read}
 use Rattle.format.specs.Refusals.{file_too_large, buffer_too_short, stream_over_budget, given_masks_rows, check_rows, call_rows, plan_rows, write_rows}
 use Rattle.format.specs.Shown.{Shown, Cause}
 use Rattle.format.proofs.Acceptance.{accepted}

@@ -2,7 +2,7 @@
 use Rattle.std.specs.Prelude.{ℕ, zero, suc, ◌+◌, ◌-◌, ◌*◌, ◌^◌, Bool, true, false, not, cond, ◌&&◌, ◌||◌, List, [], ◌∷◌, ltb, leb, eqb, length, drop}
 use Rattle.leaves.specs.Masks.{bitfields_rows}
 use Rattle.leaves.specs.Refusals.{first_number}
-use Rattle.format.specs.Decode.{Decoded, filled, refused, data_read}
+use Rattle.format.specs.Decode.{data_read}
 use Rattle.format.specs.Readers.{Fields, fields_of, word_at, dword_at, shown_height, row_length}
 use Rattle.reader.specs.Numbers.{head_bytes_of, table_bytes_of, cell_count, profile_bytes_of, profile_at_of}
 

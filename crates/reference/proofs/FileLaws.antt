@@ -30,7 +30,7 @@ use Rattle.format.proofs.HeadFields as fields
 use Rattle.format.proofs.Passing.{and_false}
 use Rattle.format.proofs.Modes.{given_mode, coded_cases, PlannedIn, planned_in}
 use Rattle.format.proofs.PlainBody.{pack_bytes_lem}
-use Rattle.reference.specs.Rust.{Run, done, ◌>>=◌, ◌>>◌, some, none, rle_over_limit, sub, within}
+use Rattle.reference.specs.Rust.{Run, done, ◌>>=◌, some, none, rle_over_limit, sub, within}
 use Rattle.reference.specs.Types.{plain_token}
 use Rattle.reference.specs.Rle.{Rle, Rle8, Rle4, rle_compression, rle_format, Probe, rle_into}
 use Rattle.reference.specs.Plan.{Plan, Head, V3, V3Masks, V3Indexed, V4Rgb565, V4Calibrated, V5Profile, max_file, rle_in, rle_for, write_head, patch_rle_head, Appended, wrote, refused, write_pixels, probed, write_probed, write_into}

@@ -1,7 +1,7 @@
 -- Rows::new follows the rows 12 and 13.
 use mathlib.Core.Path.{◌≡◌, refl}
 use mathlib.Core.List.{[], ◌∷◌}
-use Prim.Native.Nat.{◌-◌, ◌*◌, ◌^◌, ◌≤◌, ◌<◌, min}
+use Prim.Native.Nat.{◌*◌, ◌^◌, ◌≤◌, ◌<◌, min}
 use native.Mathlib.Nat.{min-eq_left, mul-le-mul}
 use native.Mathlib.Omega.{arith}
 use lib.ListN.{length}
@@ -9,7 +9,7 @@ use Rattle.leaves.specs.declared.error.Refusal.TheVariants.{PlaneTooShort, Strid
 use Rattle.leaves.specs.Refusals.{plane_too_short, stride_too_short, plane_rows}
 use Rattle.leaves.specs.Sizes as document
 use Rattle.format.specs.Input.{Input}
-use Rattle.reference.specs.Rust.{done, ◌>>=◌, ◌>>◌, plane_truncated, stride_below_row}
+use Rattle.reference.specs.Rust.{done, plane_truncated, stride_below_row}
 use Rattle.reference.specs.Packing.{RowPack, pack_bits, source_bytes, Rows, new_rows}
 use Rattle.reference.proofs.RunLaws.{mul_is}
 use Rattle.reference.proofs.PackingLaws.{stride_is}

@@ -23,7 +23,7 @@ use Rattle.format.proofs.Acceptance.{Checked}
 use Rattle.format.proofs.HeadFields.{header_le}
 use Rattle.format.proofs.HeadTable.{header_fills, indexed_refused}
 use Rattle.format.proofs.Modes.{given_mode, planned_in, no_tail}
-use Rattle.reference.specs.Rust.{done, ◌>>=◌, ◌>>◌, some, none}
+use Rattle.reference.specs.Rust.{done, some, none}
 use Rattle.reference.specs.Rle.{Rle, Rle8, Rle4, rle_slack}
 use Rattle.reference.specs.Packing.{Rows}
 use Rattle.reference.specs.Plan.{V3Indexed, head_len, Sizes, new_sizes, tail_and_slack, sizes_of, max_file}

@@ -26,7 +26,6 @@ use Rattle.reference.proofs.NewRows.{rows_for}
 use Rattle.reference.proofs.NewPlan.{plan_in, quads, new_plan_lem}
 use Rattle.reference.proofs.Limits.{largest, limited_follow}
 use Rattle.reference.proofs.PlanSizes.{sizes_for, head_small}
-use Rattle.reference.proofs.WriteLaws.{plan}
 use Rattle.reference.proofs.FileLaws.{write_is}
 use Rattle.reference.proofs.Follows as follow
 use Rattle.reference.proofs.Follows.{Follows}

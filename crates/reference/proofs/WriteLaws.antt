@@ -20,7 +20,7 @@ use Rattle.format.specs.Layout.{tail_in, head_len, rows_compression}
 use Rattle.format.specs.Headers.{file_header, info_header}
 use Rattle.format.specs.Input.{Input}
 use Rattle.format.proofs.Acceptance.{Checked}
-use Rattle.reference.specs.Rust.{Run, done, panics, ◌>>=◌, ◌>>◌, negated, to_le_bytes, within, copy_from_slice, assert_equal}
+use Rattle.reference.specs.Rust.{Run, done, panics, negated, to_le_bytes, within, copy_from_slice, assert_equal}
 use Rattle.rows.specs.StoredRows as rows
 use Rattle.rows.specs.declared.pack.RowPack.{RowPack}
 use Rattle.format.proofs.FileSizes.{pack_ok}

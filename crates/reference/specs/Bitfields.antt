@@ -1,5 +1,5 @@
 -- The mask set: its check, the places of its channels, a sample fitted to a channel (encoder.rs, section "Explicit-mask encoder").
-use Rattle.std.specs.Prelude.{ℕ, ◌-◌, Bool, not, cond, ◌&&◌, [], ◌∷◌, ltb, leb, eqb}
+use Rattle.std.specs.Prelude.{ℕ, Bool, not, cond, ◌&&◌, [], ◌∷◌, ltb, leb, eqb}
 use Rattle.std.specs.Int.Bits.{bit_and, bit_or}
 use Rattle.std.specs.Int.Count.{count_trailing_zeros, count_leading_zeros}
 use Rattle.reference.specs.Rust.{bitfields_bpp, mask_exceeds, mask_not_contiguous, mask_overlaps, no_colour_mask, Run, done, ◌>>=◌, ◌>>◌, fail_if, u32, sub, shl, shr, complement, wrapping_add, for_each}

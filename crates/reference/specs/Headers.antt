@@ -2,7 +2,7 @@
 use Rattle.std.specs.Prelude.{ℕ, cond, List, [], ◌∷◌, ltb, leb, eqb, ℤ, length, get_or, replicate}
 use Rattle.std.specs.Int.{w32}
 use Rattle.std.proofs.Common.{of_z}
-use Rattle.reference.specs.Rust.{Run, done, ◌>>=◌, ◌>>◌, u32, usize, mul, cast, unsigned_abs, to_le_bytes, at, push, extend, for, for_each}
+use Rattle.reference.specs.Rust.{Run, done, ◌>>=◌, u32, mul, cast, unsigned_abs, to_le_bytes, at, push, extend, for, for_each}
 use Rattle.reference.specs.Types.{Palette}
 use Rattle.reference.specs.Packing.{row_stride}
 

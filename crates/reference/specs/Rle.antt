@@ -1,9 +1,9 @@
 -- The RLE coders and the probe (encoder.rs, section "RLE encoders").
-use Rattle.std.specs.Prelude.{ℕ, zero, suc, ◌+◌, ◌-◌, ◌*◌, ◌/◌, Bool, true, false, not, cond, ◌&&◌, List, [], ◌∷◌, ltb, leb, eqb, length}
+use Rattle.std.specs.Prelude.{ℕ, zero, suc, ◌+◌, ◌*◌, ◌/◌, Bool, true, false, not, cond, ◌&&◌, List, [], ◌∷◌, ltb, leb, eqb, length}
 use Rattle.std.specs.Int.Bits.{bit_and, bit_or}
 use Rattle.leaves.specs.declared.encoder.EncodedBmpFormat.{EncodedBmpFormat}
 use Rattle.leaves.specs.declared.encoder.EncodedBmpFormat.TheVariants as written
-use Rattle.reference.specs.Rust.{Run, done, ◌>>=◌, ◌>>◌, and_then, u8, u64, usize, add, sub, mul, shl, cast, at, range, push, extend, truncate, for, Turn, next, leave, loop, while}
+use Rattle.reference.specs.Rust.{Run, done, ◌>>=◌, and_then, u8, u64, usize, add, sub, mul, shl, cast, at, range, push, extend, truncate, for, Turn, next, leave, loop, while}
 use Rattle.reference.specs.Packing.{Rows, source_row}
 
 -- enum Rle
