@@ -1,9 +1,11 @@
 // Prints what the widening table must hold (document 02, A.3), from document 01's formula and not from the table: a number a line, by width
 // from 9 to 16 bits, then sample from 0 to 255.
+#![tactic(auto)]
+
 ghost use Rattle.std.specs.Prelude.{◌≡◌, ◌<◌, ◌≤◌};
 ghost use Rattle.leaves.specs.Fit.{fit};
 
-use libc::STDOUT_FILENO;
+use std::io;
 
 // "sample × 2^(n−8) plus the sample's top n−8 bits"; at 16 bits these are the whole sample.
 fn by_formula(n: u32, sample: u32) -> u32
@@ -16,22 +18,19 @@ fn by_formula(n: u32, sample: u32) -> u32
 }
 
 // The numbers of one width.
-fn print_row(n: u32)
+fn print_row(rt: &impl Print, n: u32) -> io::Result<()>
     requires lt_n { 8 < n }
     requires n_bound { n ≤ 16 }
 {
-    let mut sample = 0;
-    while sample < 256 {
-        io::print_decimal(STDOUT_FILENO, by_formula(n, sample) as u64);
-        io::write_all(STDOUT_FILENO, b"\n");
-        sample += 1;
+    for sample in 0..256 {
+        println!(rt; "{}", by_formula(n, sample))?;
     }
+    Ok(())
 }
 
-fn main() {
-    let mut n = 9;
-    while n <= 16 {
-        print_row(n);
-        n += 1;
+fn main(rt: HostRuntime) -> io::Result<()> {
+    for n in 9..=16 {
+        print_row(&rt, n)?;
     }
+    Ok(())
 }
