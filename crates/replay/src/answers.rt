@@ -5,10 +5,11 @@ use leaves::encoder::EncodeSource;
 use leaves::options::EncodeOptions;
 use planner::encoder::{Encoded, encode_into};
 use planner::plan::{SizeBound, encoded_size_bound};
+use std::io;
 
 // The writing call's refusal, or 0 with the format's place in written_name and the bytes appended; the size
 // query's refusal, or 0 with the bound.
-#[derive(Drop)]
+#[derive(Clone, Copy)]
 pub(crate) struct Answer {
     pub(crate) number: u32,
     pub(crate) format: u32,
@@ -34,23 +35,24 @@ pub(crate) fn same(a: Answer, b: Answer) -> bool {
     a.bound_number == b.bound_number && a.bound == b.bound
 }
 
-pub(crate) fn show(a: Answer) {
+pub(crate) fn show(rt: &impl Print, a: Answer) -> io::Result<()> {
     if a.number != 0 {
-        text(b"refusal ");
-        decimal(a.number as u64);
+        text(rt, b"refusal ")?;
+        decimal(rt, a.number as u64)?;
     } else {
-        written_name(a.format as usize);
-        text(b" of ");
-        decimal(a.bytes as u64);
-        text(b" bytes");
+        written_name(rt, a.format as usize)?;
+        text(rt, b" of ")?;
+        decimal(rt, a.bytes as u64)?;
+        text(rt, b" bytes")?;
     }
     if a.bound_number == 0 {
-        text(b", bound ");
-        decimal(a.bound as u64);
+        text(rt, b", bound ")?;
+        decimal(rt, a.bound as u64)?;
     } else if a.bound_number != a.number {
-        text(b", bound refused with ");
-        decimal(a.bound_number as u64);
+        text(rt, b", bound refused with ")?;
+        decimal(rt, a.bound_number as u64)?;
     }
+    Ok(())
 }
 
 fn written(encoded: Encoded) -> Answer {

@@ -7,6 +7,7 @@ use crate::head::{options_of, source_of, word};
 use crate::printing::{decimal, mode_name, source_name, text};
 use crate::reading::{count_file, is_read_back};
 use arguments::words::part;
+use std::io;
 
 // Where the slices end that a case's body holds one behind another.
 #[derive(Drop)]
@@ -60,94 +61,113 @@ fn reads_back(head: &[u8], body: &[u8], file: &[u8]) -> bool {
 }
 
 // A case by its number, what is said of it, and its source format and mode.
-fn case_name(head: &[u8], case: u32, what: &[u8]) {
-    text(b"case ");
-    decimal(case as u64);
-    text(what);
-    source_name(word(head, 1) as usize);
-    text(b", ");
-    mode_name(mode_of(source_of(head), options_of(head)));
+fn case_name(rt: &impl Print, head: &[u8], case: u32, what: &[u8]) -> io::Result<()> {
+    text(rt, b"case ")?;
+    decimal(rt, case as u64)?;
+    text(rt, what)?;
+    source_name(rt, word(head, 1) as usize)?;
+    text(rt, b", ")?;
+    mode_name(rt, mode_of(source_of(head), options_of(head)))
 }
 
 // Counts the file that a case wrote at its offset, if it wrote one, reads it back, and tells where that gives
 // something else than was handed in.
-fn read_written(case: u32, head: &[u8], body: &[u8], came: Answer, out: &[u8], files: &mut [u32]) {
+fn read_written(
+    rt: &impl Print,
+    case: u32,
+    head: &[u8],
+    body: &[u8],
+    came: Answer,
+    out: &[u8],
+    files: &mut [u32],
+) -> io::Result<()> {
     if came.number != 0 {
-        return;
+        return Ok(());
     }
     let behind = part(out, word(head, 24) as usize, out.len());
     let read_back = reads_back(head, body, part(behind, 0, came.bytes));
     count_file(files, read_back);
     if !read_back {
-        case_name(head, case, b" is not read back: ");
-        text(b"\n");
+        case_name(rt, head, case, b" is not read back: ")?;
+        text(rt, b"\n")?;
     }
+    Ok(())
 }
 
-fn difference_line(head: &[u8], case: u32, wanted: Answer, came: Answer, bytes: usize) {
-    case_name(head, case, b" differs: ");
-    text(b": expected ");
-    show(wanted);
-    text(b"; came ");
-    show(came);
-    text(b"; bytes that differ: ");
-    decimal(bytes as u64);
-    text(b"\n");
+fn difference_line(
+    rt: &impl Print,
+    head: &[u8],
+    case: u32,
+    wanted: Answer,
+    came: Answer,
+    bytes: usize,
+) -> io::Result<()> {
+    case_name(rt, head, case, b" differs: ")?;
+    text(rt, b": expected ")?;
+    show(rt, wanted)?;
+    text(rt, b"; came ")?;
+    show(rt, came)?;
+    text(rt, b"; bytes that differ: ")?;
+    decimal(rt, bytes as u64)?;
+    text(rt, b"\n")
 }
 
 // Runs a case in a buffer and answers 1 where something differs, otherwise 0.
 fn compared(
+    rt: &impl Print,
     case: u32,
     head: &[u8],
     body: &[u8],
     file: &mut [u8],
     out: &mut [u8],
     files: &mut [u32],
-) -> u32 {
+) -> io::Result<u32> {
     let pels = [word(head, 39), word(head, 40)];
     let wanted = agreed(options_of(head), pels, expected(head), file);
     let seed = word(head, 26);
     fill(out, seed);
     let came = called(head, body, out);
     let bytes = differing(out, seed, word(head, 24) as usize, file);
-    read_written(case, head, body, came, out, files);
+    read_written(rt, case, head, body, came, out, files)?;
     if same(wanted, came) && bytes == 0 {
-        return 0;
+        return Ok(0);
     }
-    difference_line(head, case, wanted, came, bytes);
-    1
+    difference_line(rt, head, case, wanted, came, bytes)?;
+    Ok(1)
 }
 
 // Runs it in a buffer of the case's length; 2 where that is too long.
 fn compared_in_room(
+    rt: &impl Print,
     case: u32,
     head: &[u8],
     body: &[u8],
     file: &mut [u8],
     files: &mut [u32],
-) -> u32 {
+) -> io::Result<u32> {
     let room = word(head, 25) as usize;
     let mut out_space = space();
     let out: &mut [u8] = &mut out_space;
     if room > out.len() {
-        return 2;
+        return Ok(2);
     }
-    compared(case, head, body, file, &mut out[..room], files)
+    compared(rt, case, head, body, file, &mut out[..room], files)
 }
 
 // Runs a record that was read: 0 where all agrees, 1 where not, 2 where it is malformed.
 pub(crate) fn run_record(
+    rt: &impl Print,
     case: u32,
     head: &[u8],
     body: &[u8],
     file: &mut [u8],
     counts: &mut [u32],
     files: &mut [u32],
-) -> u32 {
+) -> io::Result<u32> {
     let size = word(head, 31) as usize;
     if size > file.len() {
-        return 2;
+        return Ok(2);
     }
     count(counts, group_of(head, expected(head)));
-    compared_in_room(case, head, body, &mut file[..size], files)
+    compared_in_room(rt, case, head, body, &mut file[..size], files)
 }

@@ -7,6 +7,7 @@ use crate::printing::{answer_name, decimal, mode_name, source_name, text};
 use leaves::bitfields::BmpBitfields;
 use leaves::encoder::EncodeSource;
 use leaves::options::EncodeOptions;
+use std::io;
 
 // Modes and answers that are counted apart; with 10 source formats that makes 4,560 groups.
 const MODES: usize = 12;
@@ -91,24 +92,23 @@ pub(crate) fn count(counts: &mut [u32], group: usize) {
     }
 }
 
-fn group_line(group: usize, n: u32) {
+fn group_line(rt: &impl Print, group: usize, n: u32) -> io::Result<()> {
     if n == 0 {
-        return;
+        return Ok(());
     }
-    source_name(group / ANSWERS / MODES);
-    text(b", ");
-    mode_name(group / ANSWERS % MODES);
-    text(b", ");
-    answer_name(group % ANSWERS);
-    text(b": ");
-    decimal(n as u64);
-    text(b"\n");
+    source_name(rt, group / ANSWERS / MODES)?;
+    text(rt, b", ")?;
+    mode_name(rt, group / ANSWERS % MODES)?;
+    text(rt, b", ")?;
+    answer_name(rt, group % ANSWERS)?;
+    text(rt, b": ")?;
+    decimal(rt, n as u64)?;
+    text(rt, b"\n")
 }
 
-pub(crate) fn group_lines(counts: &[u32]) {
-    let mut group = 0;
-    while group < counts.len() {
-        group_line(group, counts[group]);
-        group += 1;
+pub(crate) fn group_lines(rt: &impl Print, counts: &[u32]) -> io::Result<()> {
+    for group in 0..counts.len() {
+        group_line(rt, group, counts[group])?;
     }
+    Ok(())
 }

@@ -1,6 +1,8 @@
 // Replays a stored sample of the original encoder's answers, which comes on standard input
 // (bench/replay/README.md says how it was made and in which format), then runs document 01's examples that
 // are no M lines. Every file that is written is read back, whole and row by row.
+#![tactic(auto)]
+
 mod agreed;
 mod answers;
 mod buffer;
@@ -19,19 +21,21 @@ use crate::examples::{
 };
 use crate::reading::files_line;
 use crate::sample::sample;
+use std::io;
 
-fn main() {
-    if !sample() {
-        return;
+fn main(rt: HostRuntime) -> io::Result<()> {
+    let mut input = rt.reader();
+    if !sample(&rt, &mut input)? {
+        return Ok(());
     }
     let mut files_space = [0u32; 2];
     let files: &mut [u32] = &mut files_space;
-    four_by_one(files);
-    one_byte_short(files);
-    tie(files);
-    cut_first(files);
-    last_row(files);
-    profile_place(files);
-    width_field(files);
-    files_line(files);
+    four_by_one(&rt, files)?;
+    one_byte_short(&rt, files)?;
+    tie(&rt, files)?;
+    cut_first(&rt, files)?;
+    last_row(&rt, files)?;
+    profile_place(&rt, files)?;
+    width_field(&rt, files)?;
+    files_line(&rt, files)
 }

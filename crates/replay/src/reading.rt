@@ -14,6 +14,7 @@ use leaves::encoder::EncodeSource;
 use leaves::image::BmpPixelFormat;
 use leaves::options::EncodeOptions;
 use reader::read::{Reading, read};
+use std::io;
 
 // What the lent numbers are before a reading, and the seed of what the lent bytes are.
 const UNREAD: u32 = 0xA5A5_5A5A;
@@ -211,10 +212,10 @@ pub(crate) fn count_file(files: &mut [u32], read_back: bool) {
     }
 }
 
-pub(crate) fn files_line(files: &[u32]) {
-    text(b"read back ");
-    decimal(number_at(files, 1) as u64);
-    text(b" of ");
-    decimal(number_at(files, 0) as u64);
-    text(b" files, whole and row by row\n");
+pub(crate) fn files_line(rt: &impl Print, files: &[u32]) -> io::Result<()> {
+    text(rt, b"read back ")?;
+    decimal(rt, number_at(files, 1) as u64)?;
+    text(rt, b" of ")?;
+    decimal(rt, number_at(files, 0) as u64)?;
+    text(rt, b" files, whole and row by row\n")
 }

@@ -1,26 +1,44 @@
 // The sample: its records are read from standard input and run one after another.
+ghost use Rattle.std.specs.Prelude.{◌≤◌, length, IfOk};
+
 use crate::buffer::space;
 use crate::cases::run_record;
 use crate::groups::{counters, group_lines};
 use crate::head::{WORDS, word};
 use crate::printing::{decimal, text};
 use crate::reading::files_line;
-use libc::STDIN_FILENO;
+use std::io;
+use std::io::Read;
 
 // The marks of the sample and of a record, "BMPS" and "CASE".
 const SAMPLE: u32 = 0x5350_4D42;
 
 const CASE: u32 = 0x4553_4143;
 
+// Reads until the buffer is full or the input ends, and answers how many bytes came.
+fn read_full(input: &mut impl Read, buf: &mut [u8]) -> io::Result<usize>
+    ensures { IfOk result (λ n. n ≤ length buf.new) }
+{
+    let mut done = 0;
+    while done < buf.len() {
+        let n = input.read(&mut buf[done..])?;
+        if n == 0 {
+            break;
+        }
+        done += n;
+    }
+    Ok(done)
+}
+
 // Fills the buffer's first n bytes; false where it is shorter or the input ends before.
-fn read_exactly(buf: &mut [u8], n: usize) -> bool {
+fn read_exactly(input: &mut impl Read, buf: &mut [u8], n: usize) -> io::Result<bool> {
     if buf.len() < n {
-        return false;
+        return Ok(false);
     }
     if n == 0 {
-        return true;
+        return Ok(true);
     }
-    io::read_full(STDIN_FILENO, &mut buf[..n]) == n
+    Ok(read_full(input, &mut buf[..n])? == n)
 }
 
 // The bytes of a record's slices but for the expected file.
@@ -29,31 +47,42 @@ fn body_len(head: &[u8]) -> usize {
     pixels + word(head, 29) as usize + word(head, 30) as usize
 }
 
-fn read_record(head: &mut [u8], body: &mut [u8], file: &mut [u8]) -> bool {
-    if !read_exactly(head, 4 * WORDS) {
-        return false;
+fn read_record(
+    input: &mut impl Read,
+    head: &mut [u8],
+    body: &mut [u8],
+    file: &mut [u8],
+) -> io::Result<bool> {
+    if !read_exactly(input, head, 4 * WORDS)? {
+        return Ok(false);
     }
     if word(head, 0) != CASE {
-        return false;
+        return Ok(false);
     }
-    if !read_exactly(body, body_len(head)) {
-        return false;
+    if !read_exactly(input, body, body_len(head))? {
+        return Ok(false);
     }
-    read_exactly(file, word(head, 31) as usize)
+    read_exactly(input, file, word(head, 31) as usize)
 }
 
 // Reads and runs the next record.
-fn step(case: u32, counts: &mut [u32], files: &mut [u32]) -> u32 {
+fn step(
+    rt: &impl Print,
+    input: &mut impl Read,
+    case: u32,
+    counts: &mut [u32],
+    files: &mut [u32],
+) -> io::Result<u32> {
     let mut head_space = [0u8; 164];
     let head: &mut [u8] = &mut head_space;
     let mut body_space = space();
     let body: &mut [u8] = &mut body_space;
     let mut file_space = space();
     let file: &mut [u8] = &mut file_space;
-    if !read_record(head, body, file) {
-        return 2;
+    if !read_record(input, head, body, file)? {
+        return Ok(2);
     }
-    run_record(case, head, body, file, counts, files)
+    run_record(rt, case, head, body, file, counts, files)
 }
 
 // How far the sample was read, and the cases that differ.
@@ -63,65 +92,74 @@ struct Tally {
     differ: u32,
 }
 
-fn replayed(cases: u32, counts: &mut [u32], files: &mut [u32]) -> Tally {
+fn replayed(
+    rt: &impl Print,
+    input: &mut impl Read,
+    cases: u32,
+    counts: &mut [u32],
+    files: &mut [u32],
+) -> io::Result<Tally> {
     let mut done = 0;
     let mut differ = 0;
     while done < cases {
-        let outcome = step(done, counts, files);
+        let outcome = step(rt, input, done, counts, files)?;
         if outcome > 1 {
-            return Tally {
+            return Ok(Tally {
                 cases: done,
                 differ,
-            };
+            });
         }
         differ += outcome;
         done += 1;
     }
-    Tally {
+    Ok(Tally {
         cases: done,
         differ,
-    }
+    })
 }
 
-fn at_end() -> bool {
+fn at_end(input: &mut impl Read) -> io::Result<bool> {
     let mut byte = [0u8; 1];
-    io::read_full(STDIN_FILENO, &mut byte) == 0
+    Ok(read_full(input, &mut byte)? == 0)
 }
 
 // Whether the whole sample was read.
-fn read_whole(cases: u32, done: u32) -> bool {
+fn read_whole(rt: &impl Print, input: &mut impl Read, cases: u32, done: u32) -> io::Result<bool> {
     if done < cases {
-        text(b"the sample is malformed or short after this many cases: ");
-        decimal(done as u64);
-        text(b"\n");
-        return false;
+        text(
+            rt,
+            b"the sample is malformed or short after this many cases: ",
+        )?;
+        decimal(rt, done as u64)?;
+        text(rt, b"\n")?;
+        return Ok(false);
     }
-    if !at_end() {
-        text(b"the sample goes on past its last case\n");
-        return false;
+    if !at_end(input)? {
+        text(rt, b"the sample goes on past its last case\n")?;
+        return Ok(false);
     }
-    true
+    Ok(true)
 }
 
 // Replays the sample; false where it is malformed or short.
-pub(crate) fn sample() -> bool {
+pub(crate) fn sample(rt: &impl Print, input: &mut impl Read) -> io::Result<bool> {
     let mut start_space = [0u8; 8];
     let start: &mut [u8] = &mut start_space;
-    if !read_exactly(start, 8) || word(start, 0) != SAMPLE {
-        text(b"the input is no sample\n");
-        return false;
+    if !read_exactly(input, start, 8)? || word(start, 0) != SAMPLE {
+        text(rt, b"the input is no sample\n")?;
+        return Ok(false);
     }
     let cases = word(start, 1);
     let mut counts_space = counters();
     let counts: &mut [u32] = &mut counts_space;
     let mut files_space = [0u32; 2];
     let files: &mut [u32] = &mut files_space;
-    let tally = replayed(cases, counts, files);
-    group_lines(counts);
-    decimal(tally.cases as u64);
-    text(b" cases, ");
-    decimal(tally.differ as u64);
-    text(b" differ\n");
-    files_line(files);
-    read_whole(cases, tally.cases)
+    let tally = replayed(rt, input, cases, counts, files)?;
+    group_lines(rt, counts)?;
+    decimal(rt, tally.cases as u64)?;
+    text(rt, b" cases, ")?;
+    decimal(rt, tally.differ as u64)?;
+    text(rt, b" differ\n")?;
+    files_line(rt, files)?;
+    read_whole(rt, input, cases, tally.cases)
 }
