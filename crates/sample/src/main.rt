@@ -1,9 +1,12 @@
 // The sample: a smile-shaped surface of 200 x 200 cells, run as a command would be, and written to grid.bmp.
-ghost use Rattle.std.specs.Prelude.{◌<◌, ◌≤◌};
+#![tactic(auto)]
+
+ghost use Rattle.std.specs.Prelude.{◌≡◌, ◌<◌, ◌≤◌, length};
 
 use arguments::words::part;
 use command::run::run;
-use libc::STDOUT_FILENO;
+use std::rt::Files;
+use std::{fs, io, str};
 
 const SIDE: usize = 200;
 
@@ -41,46 +44,65 @@ fn surface(x: usize, y: usize) -> u8
 
 // Puts the surface into a plane.
 fn paint(plane: &mut [u8]) {
-    let mut i = 0;
-    while i < plane.len() {
+    for i in 0..plane.len() {
         plane[i] = surface(i % SIDE, i / SIDE % SIDE);
-        i += 1;
     }
 }
 
-// Writes a file, and says so where it cannot.
-fn save(path: &[u8], bytes: &[u8]) -> bool {
-    let fd = os::open_overwrite(path);
-    if fd < 0 {
-        os::fail(path);
-        return false;
-    }
-    let whole = io::write_all(fd, bytes);
-    libc::close(fd);
-    whole
+// Room for the file, and for the message.
+fn large_buffer() -> [u8; 65536]
+    ensures { 65536 ≡ length result }
+{
+    [0; 65536]
 }
 
-fn encode(plane: &[u8], out: &mut [u8], text: &mut [u8]) {
+fn buffer() -> [u8; 4096]
+    ensures { 4096 ≡ length result }
+{
+    [0; 4096]
+}
+
+// Writes a file, and says so where it cannot. A path is text.
+fn save(rt: &(impl Files + Eprint), path: &[u8], bytes: &[u8]) -> io::Result<bool> {
+    let Ok(name) = str::from_utf8(path) else {
+        eprintln!(rt; "the path is no text")?;
+        return Ok(false);
+    };
+    match fs::write(rt, name, bytes) {
+        Ok(()) => Ok(true),
+        Err(why) => {
+            eprintln!(rt; "{name}: {why}")?;
+            Ok(false)
+        }
+    }
+}
+
+fn encode(
+    rt: &(impl Files + Print + Eprint),
+    plane: &[u8],
+    out: &mut [u8],
+    text: &mut [u8],
+) -> io::Result<()> {
     let words =
         b"--plane\0surface\0--width\0200\0--height\0200\0--sample-palette\0--out\0grid.bmp\0";
     let mut none = [0u8; 1];
     let answer = run(words, plane, b"", b"", b"", &mut none, out, text);
     if answer.status == 0 {
-        if !save(b"grid.bmp", part(out, 0, answer.bytes as usize)) {
-            return;
+        if !save(rt, b"grid.bmp", part(out, 0, answer.bytes as usize))? {
+            return Ok(());
         }
     }
-    io::write_all(STDOUT_FILENO, part(text, 0, answer.text as usize));
+    rt.write_all(part(text, 0, answer.text as usize))
 }
 
-fn encode_in(plane: &mut [u8; 40000]) {
+fn encode_in(rt: &(impl Files + Print + Eprint), plane: &mut [u8; 40000]) -> io::Result<()> {
     paint(plane);
-    let mut out = io::large_buffer();
-    let mut text = io::buffer();
-    encode(plane, &mut out, &mut text);
+    let mut out = large_buffer();
+    let mut text = buffer();
+    encode(rt, plane, &mut out, &mut text)
 }
 
-fn main() {
+fn main(rt: HostRuntime) -> io::Result<()> {
     let mut plane = [0u8; 40000];
-    encode_in(&mut plane);
+    encode_in(&rt, &mut plane)
 }
