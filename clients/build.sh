@@ -3,8 +3,8 @@
 # and the file for pkg-config. The file VERSION says the version; its first number is the shared library's.
 set -eu
 cd "$(dirname "$0")/.."
-[ -f target/staticlib/libcapi.a ] || rt staticlib capi
-[ -f target/staticlib/libcommand.a ] || rt staticlib command
+[ -f target/staticlib/libcapi.a ] || bash clients/staticlib.sh capi
+[ -f target/staticlib/libcommand.a ] || bash clients/staticlib.sh command
 out=target/clients
 version=$(<VERSION)
 major=${version%%.*}

@@ -3,8 +3,8 @@
 # pkg-config and python3, and no network.
 set -eu
 cd "$(dirname "$0")/.."
-rt staticlib capi
-rt staticlib command
+bash clients/staticlib.sh capi
+bash clients/staticlib.sh command
 bash clients/build.sh
 root=$PWD
 work=$(mktemp -d)

@@ -16,7 +16,7 @@ build=${2:-$root/target/differential}
 library=$root/target/staticlib
 
 if [ ! -f "$library/libcapi.a" ]; then
-    echo "target/staticlib/libcapi.a is missing: run 'rt staticlib capi' in the repository's root" >&2
+    echo "target/staticlib/libcapi.a is missing: run 'bash clients/staticlib.sh capi' in the repository's root" >&2
     exit 2
 fi
 

@@ -19,7 +19,7 @@ if [ -n "${STANDIN:-}" ]; then
     link=(-L native="$place" -l static=standin -C link-arg=-Wl,--allow-multiple-definition)
 fi
 if [ ! -f "$library/libcapi.a" ]; then
-    echo "target/staticlib/libcapi.a is missing: run 'rt staticlib capi' in the repository's root" >&2
+    echo "target/staticlib/libcapi.a is missing: run 'bash clients/staticlib.sh capi' in the repository's root" >&2
     exit 2
 fi
 

@@ -1,6 +1,6 @@
 """Pictures written and read by one Python thread, and by two that each take half of them.
 
-    rt staticlib capi && bash clients/build.sh
+    bash clients/staticlib.sh capi && bash clients/build.sh
     python3 bench/threads/threads.py [FACTOR [NAME]]
 
 The module loads the library by ctypes.CDLL, which releases the interpreter's lock for each call, so that the library's

@@ -1,6 +1,6 @@
 /* The command bmp_writer without its files: six proved functions that take the command's words and lent memory.
- * command.c is the program over them. Link with libcommand.a (rt staticlib command). The header is for C99 and C++98
- * and later.
+ * command.c is the program over them. Link with libcommand.a (bash clients/staticlib.sh command). The header is for
+ * C99 and C++98 and later.
  *
  * `words` are the program's arguments after its name, one behind another, each with a 0 byte after it. Every pointer
  * goes with its length in bytes, but numbers with their count; NULL with length 0 is allowed. `cells`, `out`, `text`,

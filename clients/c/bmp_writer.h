@@ -1,6 +1,6 @@
 /* A BMP writer whose every byte is proved, a reader of its files, and a painter of grids of prices. Link with libcapi.a
- * (rt staticlib capi), or with libbmp_writer.so (clients/build.sh, which also writes a file for pkg-config). The header
- * is for C99 and C++98 and later.
+ * (bash clients/staticlib.sh capi), or with libbmp_writer.so (clients/build.sh, which also writes a file for
+ * pkg-config). The header is for C99 and C++98 and later.
  *
  * The calls work in memory that the caller lends and never allocate. Every pointer goes with its length in bytes, but
  * `cells`, `starts` and the lists of doubles with their count of numbers; NULL with length 0 is allowed. `out` and

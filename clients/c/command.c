@@ -1,5 +1,5 @@
 /* The program bmp_writer: it reads files, lends memory to the proved functions of bmp_command.h, writes and prints.
- *   rt staticlib command
+ *   bash clients/staticlib.sh command
  *   cc -o bmp_writer clients/c/command.c -Iclients/c target/staticlib/libcommand.a
  * The status is 0, 1 (refused, with the number) or 2 (not understood, or the system's error with its text). */
 #define _XOPEN_SOURCE 700

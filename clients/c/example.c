@@ -1,5 +1,5 @@
 /* Writes a smile-shaped surface of 200 x 200 shades to grid.bmp:
- *   rt staticlib capi
+ *   bash clients/staticlib.sh capi
  *   cc -o example clients/c/example.c -Iclients/c target/staticlib/libcapi.a && ./example
  * or, with the shared library:
  *   bash clients/build.sh

@@ -179,7 +179,8 @@ class _ReadingSizes(ctypes.Structure):
 _KINDS = {name.lower(): kind for kind, name in enumerate(FORMATS)}
 _MAX_U16, _MAX_U32, _MAX_U64 = 2 ** 16 - 1, 2 ** 32 - 1, 2 ** 64 - 1
 _MIN_I32, _MAX_I32 = -2 ** 31, 2 ** 31 - 1
-_BUILD = "run `rt staticlib capi && bash clients/build.sh` in the checkout, or set BMP_WRITER_LIBRARY to libbmp_writer.so"
+_BUILD = ("run `bash clients/staticlib.sh capi && bash clients/build.sh` in the checkout, "
+          "or set BMP_WRITER_LIBRARY to libbmp_writer.so")
 _ENTRY = "(red, green, blue) or (red, green, blue, alpha)"
 _ENTRIES = f"a sequence of {_ENTRY}"
 _DOUBLES = ("d", "@d", "=d", "<d" if sys.byteorder == "little" else ">d")

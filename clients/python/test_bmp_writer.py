@@ -26,7 +26,7 @@ except ImportError:
 HERE = os.path.dirname(os.path.abspath(__file__))
 ROOT = os.path.join(HERE, "../..")
 GREYS = [(shade, shade, shade) for shade in range(256)]
-BUILD = "rt staticlib capi && bash clients/build.sh"
+BUILD = "bash clients/staticlib.sh capi && bash clients/build.sh"
 
 M12 = bytes.fromhex("424D3E0000000000000" "03A000000280000000500000001000000010008000100000004000000130B0000130B00000100000000"
                     "000000000000000507" "0001")

@@ -30,8 +30,8 @@ def _library():
     # pip runs this file in its own folder; a relative path is meant from the caller's.
     path = os.path.join(os.environ.get("PWD", HERE), os.environ.get("BMP_WRITER_LIBRARY") or BUILT)
     if not os.path.isfile(path):
-        sys.exit(f"the library {path} is missing: run `rt staticlib capi && bash clients/build.sh` in the checkout, "
-                 "or set BMP_WRITER_LIBRARY to libbmp_writer.so")
+        sys.exit(f"the library {path} is missing: run `bash clients/staticlib.sh capi && bash clients/build.sh` in the "
+                 "checkout, or set BMP_WRITER_LIBRARY to libbmp_writer.so")
     return _read(path)
 
 

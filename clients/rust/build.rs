@@ -1,4 +1,4 @@
-//! Links the proved static library, which `rt staticlib capi` writes.
+//! Links the proved static library, which `bash clients/staticlib.sh capi` writes.
 use std::path::Path;
 
 fn main() {
@@ -6,7 +6,10 @@ fn main() {
     let archive = directory.join("libcapi.a");
     println!("cargo::rerun-if-changed={}", archive.display());
     if !archive.is_file() {
-        println!("cargo::error={} is missing: run `rt staticlib capi` in the repository's root", archive.display());
+        println!(
+            "cargo::error={} is missing: run `bash clients/staticlib.sh capi` in the repository's root",
+            archive.display()
+        );
         return;
     }
     println!("cargo::rustc-link-search=native={}", directory.display());

@@ -1,7 +1,7 @@
 //! A BMP writer whose every byte is proved, for Rust, over its C interface: types and names as the original encoder has them.
 //! `read` takes a file apart again, `read_row` one row of it from a place that `encode_with_starts` gives, and `shade_quotes`
 //! paints a plane from prices.
-//! `build.rs` links `libcapi.a` (`rt staticlib capi`).
+//! `build.rs` links `libcapi.a` (`bash clients/staticlib.sh capi`).
 
 /// The layout of the lent plane.
 #[derive(Clone, Copy, Debug, PartialEq, Eq)]

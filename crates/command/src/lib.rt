@@ -1,5 +1,5 @@
 // The command on memory that the caller lends: what its words ask for, the files it needs, and its run. A front in C, or
-// another program, reads and writes the files. `clients/c/bmp_command.h` declares the same.
+// another program, reads and writes the files. `command_c` exports the six functions to C.
 #![tactic(auto)]
 
 ghost use Rattle.std.specs.Prelude.{◌≡◌};

@@ -1,0 +1,92 @@
+// The command for callers from C: one exported function for each of the library's that C calls. `clients/c/bmp_command.h`
+// declares the same.
+#![tactic(auto)]
+
+ghost use Rattle.std.specs.Prelude.{◌≡◌};
+ghost use Rattle.arguments.specs.Words.{words_of};
+ghost use Rattle.leaves.specs.Refusals.{first_applying};
+ghost use Rattle.messages.specs.Messages.{Says};
+ghost use Rattle.reader.specs.Answers.{sizes_for};
+ghost use Rattle.reader.specs.Refusals.{open_rows};
+ghost use Rattle.command.specs.Commands.{file_named};
+ghost use Rattle.command.specs.QuoteRuns.{QuoteRan};
+ghost use Rattle.command.specs.Runs.{Checked, Ran};
+ghost use Rattle.command.specs.SheetReads.{lent_sizes, ReadRan};
+
+use command::{CommandAnswer, CommandSizes};
+
+// What the words alone say: help, the version, or what is wrong with them; 3 where the command is to be run.
+#[unsafe(no_mangle)]
+pub extern "C" fn bmp_command_check(words: &[u8], text: &mut [u8]) -> CommandAnswer
+    ensures { Checked (words_of words.now) text.old text.new result }
+{
+    command::bmp_command_check(words, text)
+}
+
+// Puts the name of a file into `name`, as much of it as fits, and answers its bytes; 0 where the command neither reads
+// nor writes it. 0 the plane, 1 the sheet, 2 the palette, 3 the embedded and 4 the linked profile, 5 the file to write,
+// 6 the file to read, whose sheet goes to 1, 7 the edges, 8 the lows and 9 the highs of prices.
+#[unsafe(no_mangle)]
+pub extern "C" fn bmp_command_file(words: &[u8], file: u32, name: &mut [u8]) -> u64
+    ensures { Says name.old 0 (file_named file (words_of words.now)) name.new result }
+{
+    command::bmp_command_file(words, file, name)
+}
+
+// Runs the command on files in memory: `plane` is the plane, the sheet or what `bmp_command_shade` has painted, `cells`
+// memory for the sheet's cells, whose later contents are free.
+#[unsafe(no_mangle)]
+pub extern "C" fn bmp_command<'a>(
+    words: &[u8],
+    plane: &[u8],
+    palette: &[u8],
+    icc: &'a [u8],
+    linked_icc: &'a [u8],
+    cells: &mut [u8],
+    out: &mut [u8],
+    text: &mut [u8],
+) -> CommandAnswer
+    ensures { Ran (words_of words.now) plane.now palette.now icc.now linked_icc.now cells.old out.old out.new text.old text.new result }
+{
+    command::bmp_command(words, plane, palette, icc, linked_icc, cells, out, text)
+}
+
+// Paints the first cells, one for each low, from prices: with status 3 they are the plane that `bmp_command` takes.
+#[unsafe(no_mangle)]
+pub extern "C" fn bmp_command_shade(
+    words: &[u8],
+    edges: &[f64],
+    lows: &[f64],
+    highs: &[f64],
+    cells: &mut [u8],
+    text: &mut [u8],
+) -> CommandAnswer
+    ensures { QuoteRan (words_of words.now) edges.now lows.now highs.now cells.old cells.new text.old text.new result }
+{
+    command::bmp_command_shade(words, edges, lows, highs, cells, text)
+}
+
+// What must be lent to read a file; all 0 where it is refused.
+#[unsafe(no_mangle)]
+pub extern "C" fn bmp_command_read_sizes(file: &[u8]) -> CommandSizes
+    ensures { result ≡ lent_sizes (sizes_for (first_applying (open_rows file.now)) file.now) }
+{
+    command::bmp_command_read_sizes(file)
+}
+
+// Runs a command that reads: the cells of `file` go to `out` as a sheet. `head`, `table` and `cells` hold later what the
+// reader puts there.
+#[unsafe(no_mangle)]
+pub extern "C" fn bmp_command_read(
+    words: &[u8],
+    file: &[u8],
+    head: &mut [u8],
+    table: &mut [u8],
+    cells: &mut [u32],
+    out: &mut [u8],
+    text: &mut [u8],
+) -> CommandAnswer
+    ensures { ReadRan (words_of words.now) file.now head.old table.old cells.old head.new table.new cells.new out.old out.new text.old text.new result }
+{
+    command::bmp_command_read(words, file, head, table, cells, out, text)
+}
