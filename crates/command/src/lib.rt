@@ -53,8 +53,7 @@ pub struct CommandSizes {
 }
 
 // What the words alone say: help, the version, or what is wrong with them; 3 where the command is to be run.
-#[unsafe(no_mangle)]
-pub extern "C" fn bmp_command_check(words: &[u8], text: &mut [u8]) -> CommandAnswer
+pub fn bmp_command_check(words: &[u8], text: &mut [u8]) -> CommandAnswer
     ensures { Checked (words_of words.now) text.old text.new result }
 {
     check(words, text)
@@ -63,8 +62,7 @@ pub extern "C" fn bmp_command_check(words: &[u8], text: &mut [u8]) -> CommandAns
 // Puts the name of a file into `name`, as much of it as fits, and answers its bytes; 0 where the command neither reads
 // nor writes it. 0 the plane, 1 the sheet, 2 the palette, 3 the embedded and 4 the linked profile, 5 the file to write,
 // 6 the file to read, whose sheet goes to 1, 7 the edges, 8 the lows and 9 the highs of prices.
-#[unsafe(no_mangle)]
-pub extern "C" fn bmp_command_file(words: &[u8], file: u32, name: &mut [u8]) -> u64
+pub fn bmp_command_file(words: &[u8], file: u32, name: &mut [u8]) -> u64
     ensures { Says name.old 0 (file_named file (words_of words.now)) name.new result }
 {
     tell(name, b"@", file_name(words, file), b"", b"", b"") as u64
@@ -72,8 +70,7 @@ pub extern "C" fn bmp_command_file(words: &[u8], file: u32, name: &mut [u8]) -> 
 
 // Runs the command on files in memory: `plane` is the plane, the sheet or what `bmp_command_shade` has painted, `cells`
 // memory for the sheet's cells, whose later contents are free.
-#[unsafe(no_mangle)]
-pub extern "C" fn bmp_command<'a>(
+pub fn bmp_command<'a>(
     words: &[u8],
     plane: &[u8],
     palette: &[u8],
@@ -89,8 +86,7 @@ pub extern "C" fn bmp_command<'a>(
 }
 
 // Paints the first cells, one for each low, from prices: with status 3 they are the plane that `bmp_command` takes.
-#[unsafe(no_mangle)]
-pub extern "C" fn bmp_command_shade(
+pub fn bmp_command_shade(
     words: &[u8],
     edges: &[f64],
     lows: &[f64],
@@ -104,8 +100,7 @@ pub extern "C" fn bmp_command_shade(
 }
 
 // What must be lent to read a file; all 0 where it is refused.
-#[unsafe(no_mangle)]
-pub extern "C" fn bmp_command_read_sizes(file: &[u8]) -> CommandSizes
+pub fn bmp_command_read_sizes(file: &[u8]) -> CommandSizes
     ensures { result ≡ lent_sizes (sizes_for (first_applying (open_rows file.now)) file.now) }
 {
     lent_sizes(file)
@@ -113,8 +108,7 @@ pub extern "C" fn bmp_command_read_sizes(file: &[u8]) -> CommandSizes
 
 // Runs a command that reads: the cells of `file` go to `out` as a sheet. `head`, `table` and `cells` hold later what the
 // reader puts there.
-#[unsafe(no_mangle)]
-pub extern "C" fn bmp_command_read(
+pub fn bmp_command_read(
     words: &[u8],
     file: &[u8],
     head: &mut [u8],
