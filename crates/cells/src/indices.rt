@@ -149,7 +149,7 @@ fn repeat(value: u32, n: usize, cells: &mut [u32], to: usize)
 }
 
 // The cells of a pair: at depth 4 the value's halves in turn.
-fn put_pair(depth: u16, value: u8, n: usize, cells: &mut [u32], to: usize)
+pub(crate) fn put_pair(depth: u16, value: u8, n: usize, cells: &mut [u32], to: usize)
     requires { to + n ≤ length cells.old }
     ensures { cells.new ≡ put cells.old to (tab (pair_cell depth value) n) }
 {

@@ -4,7 +4,7 @@ ghost use Rattle.leaves.specs.Put.{put};
 ghost use Rattle.format.specs.Decode.{read_code, read_row, decode};
 ghost use Rattle.cells.specs.Streams.{is_refused, cells_in, bytes_in, code_of, row_end, marks_end, PutWithin};
 
-use crate::indices::{put_block, put_pair_in};
+use crate::indices::{put_block, put_pair, put_pair_in};
 
 // How many cells a code fills and its bytes; no cell where it is refused.
 #[derive(Clone, Copy)]
@@ -136,8 +136,41 @@ pub fn stream_fails(file: &[u8], offset: usize, depth: u16, width: usize, height
     }
 }
 
-// Fills in the cells of a code that is not refused; those behind it in the row may change too.
+// Fills in the cells of a code that is not refused.
 fn fill_code(file: &[u8], at: usize, depth: u16, room: usize, cells: &mut [u32], to: usize) -> Code
+    requires room_nonzero { 0 < room }
+    requires fact { (depth ≡ 4) ⊎ (depth ≡ 8) }
+    requires file_value { is_refused (read_code depth room (drop at file.now)) ≡ false }
+    requires room_in_bounds { to + room ≤ length cells.old }
+    ensures value { (result ≡ code_of (read_code depth room (drop at file.now))) × (result.bytes ≤ 258) }
+    ensures cells_after { cells.new ≡ put cells.old to (cells_in (read_code depth room (drop at file.now))) }
+{
+    let first = file[at] as usize;
+    if first != 0 {
+        put_pair(depth, file[at + 1], first, cells, to);
+        return Code {
+            cells: first,
+            bytes: 2,
+        };
+    }
+    let n = file[at + 1] as usize;
+    put_block(file, at + 2, depth, n, cells, to);
+    let data = data_bytes(n, depth);
+    Code {
+        cells: n,
+        bytes: 2 + data + data % 2,
+    }
+}
+
+// The same in a row that has room for more: behind a short run's cells, those in the row may change too.
+fn fill_code_in(
+    file: &[u8],
+    at: usize,
+    depth: u16,
+    room: usize,
+    cells: &mut [u32],
+    to: usize,
+) -> Code
     requires room_nonzero { 0 < room }
     requires fact { (depth ≡ 4) ⊎ (depth ≡ 8) }
     requires file_value { is_refused (read_code depth room (drop at file.now)) ≡ false }
@@ -153,13 +186,7 @@ fn fill_code(file: &[u8], at: usize, depth: u16, room: usize, cells: &mut [u32],
             bytes: 2,
         };
     }
-    let n = file[at + 1] as usize;
-    put_block(file, at + 2, depth, n, cells, to);
-    let data = data_bytes(n, depth);
-    Code {
-        cells: n,
-        bytes: 2 + data + data % 2,
-    }
+    fill_code(file, at, depth, room, cells, to)
 }
 
 // Fills in a row that is not refused, and answers where its codes end.
@@ -182,7 +209,7 @@ pub fn fill_row(
     let mut at = start;
     let mut x = 0;
     while x < width {
-        let code = fill_code(file, at, depth, width - x, cells, to + x);
+        let code = fill_code_in(file, at, depth, width - x, cells, to + x);
         x += code.cells;
         at += code.bytes;
     }

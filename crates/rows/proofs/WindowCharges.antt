@@ -3,7 +3,7 @@ use Rattle.std.proofs.Common.{◌≡◌, ℕ, zero, suc, ◌+◌, ◌-◌, ◌*�
 use Rattle.rows.specs.RleCodes.{cells, codes}
 use Rattle.rows.specs.Windows.{bit, total, twins, flags_at, before, lone, first, even_place, charged, Coding}
 use Rattle.rows.proofs.Charges.{even}
-use Rattle.rows.proofs.Scans.{cell_at, length-cells}
+use Rattle.rows.proofs.Scans.{cell_at}
 use Rattle.rows.proofs.WindowBlocks.{flag, half, run-codes, lone-codes}
 
 -- ---- where a test changes
@@ -294,9 +294,9 @@ module _ (row : List ℕ) (at : ℕ) (bytes : (i : ℕ) → get_or row i 0 < 256
   pub flag_is : (k : ℕ) → flag 8 row (at + k) ≡ twins row at k
   flag_is k = rw (cell_byte (at + k), cell_byte (at + k + 1))
 
-  -- as cells they have the same flags
-  pub flags_cells : (k : ℕ) → flags_at (cells 8 row) at k ≡ flags_at row at k
-  flags_cells k = rw (length-cells 8 row, cell_byte (at + k), cell_byte (at + k + 1))
+  -- as cells they are alike where they are alike as bytes
+  pub twins_cells : (k : ℕ) → twins (cells 8 row) at k ≡ twins row at k
+  twins_cells k = rw (cell_byte (at + k), cell_byte (at + k + 1))
 
   module _ (u : ℕ) (most : u + 2 ≤ 64) (on : flags_at row at u ≡ true) (off : flags_at row at (u + 1) ≡ false) where
     end_is : ((at + u + 2 < length row) × (flag 8 row (at + u + 1) ≡ false)) ⊎ (length row ≤ at + u + 2)

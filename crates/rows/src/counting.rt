@@ -82,7 +82,7 @@ fn window_blocks(row: &[u8], at: usize) -> Coded
     requires { (65 ≤ length row.now) × (at + 2 ≤ length row.now) }
     ensures { (result.cells ≡ 0) ⊎ Coding 8 row.now at result.cells result.bytes }
 {
-    let e = window_flags(row, at, false);
+    let e = window_flags(row, at);
     let cells = whole_runs(e);
     if cells == 0 {
         return Coded { bytes: 0, cells: 0 };

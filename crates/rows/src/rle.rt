@@ -14,7 +14,7 @@ use crate::blocks::{
 };
 use crate::indices::pack_bytes;
 use crate::starts::note_start;
-use crate::windows::{flags_clear, flags_set, window_flags};
+use crate::windows::{flags_clear, flags_set, window_flags_of};
 use leaves::buffer::put_slice;
 use leaves::encoder::EncodedBmpFormat;
 use leaves::types::{BI_RLE4, BI_RLE8};
@@ -123,7 +123,7 @@ fn put_window(row: &[u8], at: usize, four: bool, buf: &mut [u8], place: usize) -
 {
     let mut o = place;
     let mut i = at;
-    let mut e = window_flags(row, at, four);
+    let mut e = window_flags_of(row, at, four);
     let mut known: usize = 64;
     loop {
         let same = flags_set(e);

@@ -54,7 +54,7 @@ fn index_mask(four: bool) -> u8
 
 // Bit k says that the cell k after `at` is equal to the one after it, where an index has the bits of a mask. The loop
 // over bytes is vector code.
-fn flag_word(row: &[u8], at: usize, mask: u8) -> u64
+fn masked_flags(row: &[u8], at: usize, mask: u8) -> u64
     requires { at + 65 ≤ length row.now }
     ensures { (d : ℕ) → mask ≡ 2 ^ d - 1 → result ≡ from_bits (twins (cells d row.now) at) 64 }
 {
@@ -69,17 +69,37 @@ fn flag_word(row: &[u8], at: usize, mask: u8) -> u64
     packed(flags)
 }
 
-// The flags of the window at `at`: near the row's end from the row's last 65 cells.
-pub(crate) fn window_flags(row: &[u8], at: usize, four: bool) -> u64
+// The same where an index has all 8 bits.
+fn flag_word(row: &[u8], at: usize) -> u64
+    requires { at + 65 ≤ length row.now }
+    ensures { result ≡ from_bits (twins row.now at) 64 }
+{
+    masked_flags(row, at, 255)
+}
+
+// The flags of the window at `at`, of indices of 8 bits: near the row's end from the row's last 65 cells.
+pub(crate) fn window_flags(row: &[u8], at: usize) -> u64
+    requires { (65 ≤ length row.now) × (at + 2 ≤ length row.now) }
+    ensures { result ≡ from_bits (flags_at row.now at) 64 }
+{
+    let last = row.len() - 65;
+    if at <= last {
+        return flag_word(row, at);
+    }
+    flag_word(row, last) >> (at - last) as u32
+}
+
+// The same of indices of either depth.
+pub(crate) fn window_flags_of(row: &[u8], at: usize, four: bool) -> u64
     requires { (65 ≤ length row.now) × (at + 2 ≤ length row.now) }
     ensures { result ≡ from_bits (flags_at (cells (depth_of four) row.now) at) 64 }
 {
     let mask = index_mask(four);
     let last = row.len() - 65;
     if at <= last {
-        return flag_word(row, at, mask);
+        return masked_flags(row, at, mask);
     }
-    flag_word(row, last, mask) >> (at - last) as u32
+    masked_flags(row, last, mask) >> (at - last) as u32
 }
 
 // Bit k says that two bytes are charged to the cell k of the window. The sum carries through the stretches of

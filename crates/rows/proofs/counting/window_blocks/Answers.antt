@@ -1,7 +1,6 @@
-use Rattle.std.proofs.Common.{ℕ, ◌<◌, Bool, get_or, refl, ◌∙◌, inl}
+use Rattle.std.proofs.Common.{ℕ, ◌<◌, Bool, get_or, refl, inl}
 use Rattle.rows.specs.Windows.{flags_at}
-use Rattle.rows.proofs.FromBits.{bits_ext}
-use Rattle.rows.proofs.WindowCharges.{coded, flags_cells}
+use Rattle.rows.proofs.WindowCharges.{coded}
 use Rattle.rows.proofs.counting.window_blocks.Goals as goal
 
 pub returns-then-cells-eq0 : goal.returns-then-cells-eq0
@@ -12,5 +11,5 @@ returns c =
     let a = c.args in
     let f : ℕ → Bool = flags_at a.row.now a.at in
     let bytes : (i : ℕ) → get_or a.row.now i 0 < 256 = λ i. (c.shared_slice_known-1.given i).fits in
-    let w = c.window_flags-e.ensures ∙ bits_ext _ f 64 (λ k l. flags_cells a.row.now a.at bytes k) in
+    let w = c.window_flags-e.ensures in
     coded a.row.now a.at bytes _ _ (c.whole_runs-cells.ensures.0 f w) c.if-cells-eq0.false (c.charge_below-bytes.ensures.0 f w)

@@ -13,7 +13,7 @@ here : (d : ℕ) (row : List ℕ) (i e n m l : ℕ) (s : Shows (cells d row) i e
 here d row i e n m l s em el fits = omega (arith, shown_inside d row i e n s m l (em s.flags s.word) (el s.flags s.word) fits)
 
 pub loop-known-init : goal.loop-known-init
-loop-known-init c = let a = c.args in (omega arith, omega arith, refl, refl, refl, shows_start (cells (depth_of a.four) a.row.now) a.at c.window_flags-e.result c.window_flags-e.ensures)
+loop-known-init c = let a = c.args in (omega arith, omega arith, refl, refl, refl, shows_start (cells (depth_of a.four) a.row.now) a.at c.window_flags_of-e.result c.window_flags_of-e.ensures)
 
 pub shown_block-b-requires : goal.shown_block-b-requires
 shown_block-b-requires c =

@@ -1,7 +1,7 @@
 use Rattle.std.proofs.Common.{◌≡◌, ℕ, ◌+◌, ◌-◌, ◌<◌, ◌≤◌, Bool, eqb, List, length, get_or}
 use lib.Bits.{bit_and}
 use Rattle.rows.specs.Windows.{bit}
-use Rattle.rows.proofs.windows.flag_word.Given as goal
+use Rattle.rows.proofs.windows.masked_flags.Given as goal
 
 -- whether the cell k after a place is equal to the one after it, under a mask
 abbrev pub alike : List ℕ → ℕ → ℕ → ℕ → Bool
