@@ -21,7 +21,7 @@ fn digit(byte: u8) -> u64
 // A number with one more digit.
 fn appended(number: u64, base: u64, digit: u64) -> u64
     requires number_bound { number < 2 ^ 56 }
-    requires fact { (base ≡ 10) ⊎ (base ≡ 16) }
+    requires known_base { (base ≡ 10) ⊎ (base ≡ 16) }
     requires digit_lt_base { digit < base }
     ensures { (result ≡ number * base + digit) × (result < 2 ^ 60) }
 {

@@ -62,7 +62,7 @@ fn byte_of_eight(file: &[u8], at: usize, place: usize) -> u8
 // Where the byte of number k of four cells stands, counted from five bytes before byte k. Alpha, which has no byte, is
 // behind eight bytes; a branch for it would not be vector code.
 fn place_of(size: usize, k: usize) -> usize
-    requires fact { (size ≡ 3) ⊎ (size ≡ 4) }
+    requires known_size { (size ≡ 3) ⊎ (size ≡ 4) }
     requires k_bound { k < 16 }
     ensures { result ≡ number_place size k }
 {
@@ -71,7 +71,7 @@ fn place_of(size: usize, k: usize) -> usize
 
 // The same of a size that is one of two: from a literal it is a constant for each k, which vector code needs.
 fn known_place(size: usize, k: usize) -> usize
-    requires fact { (size ≡ 3) ⊎ (size ≡ 4) }
+    requires known_size { (size ≡ 3) ⊎ (size ≡ 4) }
     requires k_bound { k < 16 }
     ensures { result ≡ number_place size k }
 {
@@ -83,7 +83,7 @@ fn known_place(size: usize, k: usize) -> usize
 
 // Four cells of 3 or 4 bytes. By way of a local array it is vector code, which reads some bytes before and behind them.
 fn four_cells(file: &[u8], from: usize, size: usize, cells: &mut [u32], to: usize)
-    requires fact { (size ≡ 3) ⊎ (size ≡ 4) }
+    requires known_size { (size ≡ 3) ⊎ (size ≡ 4) }
     requires le_from { 5 ≤ from }
     requires from_in_bounds { from + 18 ≤ length file.now }
     requires to_in_bounds { to + 16 ≤ length cells.old }
@@ -100,7 +100,7 @@ fn four_cells(file: &[u8], from: usize, size: usize, cells: &mut [u32], to: usiz
 
 // n cells of 3 or 4 bytes, four a turn but for the first two and the last ones: around those there may be no bytes to read.
 pub fn put_bytes(file: &[u8], from: usize, size: usize, n: usize, cells: &mut [u32], to: usize)
-    requires fact { (size ≡ 3) ⊎ (size ≡ 4) }
+    requires known_size { (size ≡ 3) ⊎ (size ≡ 4) }
     requires size_in_bounds { from + n * size ≤ length file.now }
     requires n_in_bounds { to + n * 4 ≤ length cells.old }
     ensures { cells.new ≡ put cells.old to (cat (bytes_quad file.now from size) n) }
@@ -174,7 +174,7 @@ fn dword(file: &[u8], at: usize) -> u32
 
 // The word of a cell of 16 or 32 bits.
 fn cell_word(file: &[u8], at: usize, depth: u16) -> u32
-    requires fact { (depth ≡ 16) ⊎ (depth ≡ 32) }
+    requires known_depth { (depth ≡ 16) ⊎ (depth ≡ 32) }
     requires depth_in_bounds { at + depth / 8 ≤ length file.now }
     ensures { result ≡ cond (eqb depth 16) (word_at file.now at) (dword_at file.now at) }
 {
@@ -194,7 +194,7 @@ pub fn put_words(
     cells: &mut [u32],
     to: usize,
 )
-    requires fact { (depth ≡ 16) ⊎ (depth ≡ 32) }
+    requires known_depth { (depth ≡ 16) ⊎ (depth ≡ 32) }
     requires channels_ok { ChannelsOk channels }
     requires depth_in_bounds { from + n * (depth / 8) ≤ length file.now }
     requires n_in_bounds { to + n * 4 ≤ length cells.old }

@@ -16,7 +16,7 @@ pub(crate) fn byte(file: &[u8], k: usize) -> u32
 // n bytes, each as a number.
 pub(crate) fn widen(file: &[u8], from: usize, n: usize, cells: &mut [u32], to: usize)
     requires n_in_bounds { from + n ≤ length file.now }
-    requires n_in_bounds_2 { to + n ≤ length cells.old }
+    requires cells_in_bounds { to + n ≤ length cells.old }
     ensures { cells.new ≡ put cells.old to (tab (cell_at 8 (drop from file.now)) n) }
 {
     let mut x = 0;
@@ -28,7 +28,7 @@ pub(crate) fn widen(file: &[u8], from: usize, n: usize, cells: &mut [u32], to: u
 
 // Index x of those packed from a place on, the first in the high bits of its byte.
 fn packed_index(file: &[u8], from: usize, depth: u16, x: usize) -> u32
-    requires depth_value { has_table depth ≡ true }
+    requires table_depth { has_table depth ≡ true }
     requires x_bound { x < 2 ^ 40 }
     requires depth_in_bounds { from + x * depth / 8 < length file.now }
     ensures { result ≡ cell_at depth (drop from file.now) x }
@@ -40,7 +40,7 @@ fn packed_index(file: &[u8], from: usize, depth: u16, x: usize) -> u32
 
 // n indices one by one.
 fn each_index(file: &[u8], from: usize, depth: u16, n: usize, cells: &mut [u32], to: usize)
-    requires depth_value { has_table depth ≡ true }
+    requires table_depth { has_table depth ≡ true }
     requires n_bound { n < 2 ^ 40 }
     requires depth_in_bounds { from + (n * depth + 7) / 8 ≤ length file.now }
     requires n_in_bounds { to + n ≤ length cells.old }
@@ -55,7 +55,7 @@ fn each_index(file: &[u8], from: usize, depth: u16, n: usize, cells: &mut [u32],
 
 // n indices byte by byte: with a depth that is known the indices of a byte are a few stores without a loop.
 fn unpack(file: &[u8], from: usize, depth: u16, n: usize, cells: &mut [u32], to: usize)
-    requires depth_value { has_table depth ≡ true }
+    requires table_depth { has_table depth ≡ true }
     requires n_bound { n < 2 ^ 40 }
     requires depth_in_bounds { from + (n * depth + 7) / 8 ≤ length file.now }
     requires n_in_bounds { to + n ≤ length cells.old }
@@ -74,7 +74,7 @@ fn unpack(file: &[u8], from: usize, depth: u16, n: usize, cells: &mut [u32], to:
 
 // n indices, packed from a place on.
 pub fn put_indices(file: &[u8], from: usize, depth: u16, n: usize, cells: &mut [u32], to: usize)
-    requires depth_value { has_table depth ≡ true }
+    requires table_depth { has_table depth ≡ true }
     requires n_bound { n < 2 ^ 40 }
     requires depth_in_bounds { from + (n * depth + 7) / 8 ≤ length file.now }
     requires n_in_bounds { to + n ≤ length cells.old }
@@ -105,7 +105,7 @@ pub(crate) fn put_block(
     cells: &mut [u32],
     to: usize,
 )
-    requires fact { (depth ≡ 4) ⊎ (depth ≡ 8) }
+    requires known_depth { (depth ≡ 4) ⊎ (depth ≡ 8) }
     requires n_bound { n < 2 ^ 40 }
     requires depth_in_bounds { from + (n * depth + 7) / 8 ≤ length file.now }
     requires n_in_bounds { to + n ≤ length cells.old }

@@ -139,10 +139,10 @@ pub fn stream_fails(file: &[u8], offset: usize, depth: u16, width: usize, height
 // Fills in the cells of a code that is not refused.
 fn fill_code(file: &[u8], at: usize, depth: u16, room: usize, cells: &mut [u32], to: usize) -> Code
     requires room_nonzero { 0 < room }
-    requires fact { (depth ≡ 4) ⊎ (depth ≡ 8) }
-    requires file_value { is_refused (read_code depth room (drop at file.now)) ≡ false }
+    requires known_depth { (depth ≡ 4) ⊎ (depth ≡ 8) }
+    requires not_refused { is_refused (read_code depth room (drop at file.now)) ≡ false }
     requires room_in_bounds { to + room ≤ length cells.old }
-    ensures value { (result ≡ code_of (read_code depth room (drop at file.now))) × (result.bytes ≤ 258) }
+    ensures answer { (result ≡ code_of (read_code depth room (drop at file.now))) × (result.bytes ≤ 258) }
     ensures cells_after { cells.new ≡ put cells.old to (cells_in (read_code depth room (drop at file.now))) }
 {
     let first = file[at] as usize;
@@ -172,10 +172,10 @@ fn fill_code_in(
     to: usize,
 ) -> Code
     requires room_nonzero { 0 < room }
-    requires fact { (depth ≡ 4) ⊎ (depth ≡ 8) }
-    requires file_value { is_refused (read_code depth room (drop at file.now)) ≡ false }
+    requires known_depth { (depth ≡ 4) ⊎ (depth ≡ 8) }
+    requires not_refused { is_refused (read_code depth room (drop at file.now)) ≡ false }
     requires room_in_bounds { to + room ≤ length cells.old }
-    ensures value { (result ≡ code_of (read_code depth room (drop at file.now))) × (result.bytes ≤ 258) }
+    ensures answer { (result ≡ code_of (read_code depth room (drop at file.now))) × (result.bytes ≤ 258) }
     ensures put_within { PutWithin cells.old to (cells_in (read_code depth room (drop at file.now))) room cells.new }
 {
     let first = file[at] as usize;
@@ -199,11 +199,11 @@ pub fn fill_row(
     to: usize,
 ) -> usize
     requires start_bound { start < 2 ^ 63 }
-    requires fact { (depth ≡ 4) ⊎ (depth ≡ 8) }
+    requires known_depth { (depth ≡ 4) ⊎ (depth ≡ 8) }
     requires width_bound { width < 2 ^ 31 }
-    requires file_value { is_refused (read_row depth width (drop start file.now)) ≡ false }
+    requires not_refused { is_refused (read_row depth width (drop start file.now)) ≡ false }
     requires width_in_bounds { to + width ≤ length cells.old }
-    ensures value { (result ≡ start + bytes_in (read_row depth width (drop start file.now))) × (result ≤ start + 258 * width) }
+    ensures answer { (result ≡ start + bytes_in (read_row depth width (drop start file.now))) × (result ≤ start + 258 * width) }
     ensures cells_after { cells.new ≡ put cells.old to (cells_in (read_row depth width (drop start file.now))) }
 {
     let mut at = start;

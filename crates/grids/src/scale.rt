@@ -106,7 +106,7 @@ impl Quote {
     // The shade of both ends, or the hatch. The high has the low's shade unless the next edge is at or below it too.
     fn index(self, full: usize, ends: &[f64; 16], blocks: &[f64; 256]) -> u8
         requires levels { Levels full ends.now blocks.now }
-        requires self_value { not_quote self ≡ false }
+        requires one_quote { not_quote self ≡ false }
         ensures { result ≡ index_of blocks.now self }
     {
         let low = shade(self.low, full, ends, blocks);
@@ -139,9 +139,9 @@ fn are_quotes(lows: &[f64], highs: &[f64]) -> bool
 // Paints the quotes.
 fn fill(edges: &[f64], lows: &[f64], highs: &[f64], plane: &mut [u8])
     requires lows_in_bounds { length lows.now ≤ length highs.now }
-    requires lows_in_bounds_2 { length lows.now ≤ length plane.old }
-    requires edges_value { not_scale edges.now ≡ false }
-    requires lows_value { some_not_quote lows.now highs.now (length lows.now) ≡ false }
+    requires plane_in_bounds { length lows.now ≤ length plane.old }
+    requires edges_rise { not_scale edges.now ≡ false }
+    requires all_quotes { some_not_quote lows.now highs.now (length lows.now) ≡ false }
     ensures { plane.new ≡ put plane.old 0 (indices_of edges.now lows.now highs.now) }
 {
     let mut ends = [0.0f64; 16];

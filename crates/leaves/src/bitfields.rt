@@ -60,9 +60,9 @@ fn mask_limit(bpp: u16) -> u32
 
 // 7, 8 and 9 of the mask at place k, after masks whose bits together are `union`.
 fn validate_mask(bpp: u16, masks: [u32; 4], k: usize, union: u32) -> Check
-    requires fact { (bpp ≡ 16) ⊎ (bpp ≡ 32) }
+    requires known_depth { (bpp ≡ 16) ⊎ (bpp ≡ 32) }
     requires k_bound { k < 4 }
-    requires union_value { union ≡ union_of masks k }
+    requires union_so_far { union ≡ union_of masks k }
     ensures { check_number result ≡ first_number (mask_rows bpp masks k) }
 {
     let mask = masks[k];

@@ -125,7 +125,7 @@ fn write_head(
     requires height_nonzero { 0 < src.height }
     requires entries_bound { layout.entries ≤ 256 }
     requires head_le_max_file { head ≤ max_file }
-    requires head_value { head ≡ 54 + length (head_rest layout.mode src options 0 0) + 4 * layout.entries }
+    requires head_length { head ≡ 54 + length (head_rest layout.mode src options 0 0) + 4 * layout.entries }
     requires head_in_bounds { at + head ≤ length buf.old }
     ensures { buf.new ≡ put buf.old at (head_by layout src options palette.now head compression image_size file_size profile_size profile_data) }
 {
@@ -168,7 +168,7 @@ fn write_stream(
 ) -> Encoded
     requires streamed { Streamed (chosen src options plane.now palette.now []) layout sizes rle len }
     requires len_in_bounds { at + sizes.head + len ≤ length buf.old }
-    ensures value { result ≡ encoded_for Passed (chosen src options plane.now palette.now []) }
+    ensures answer { result ≡ encoded_for Passed (chosen src options plane.now palette.now []) }
     ensures buf_after { buf.new ≡ put buf.old at (file_of options.limit (chosen src options plane.now palette.now [])) }
     ensures starts_after { starts.new ≡ noted_for Passed (chosen src options plane.now palette.now []) starts.old }
 {
@@ -216,11 +216,11 @@ fn write_rows(
     starts: &mut [u64],
 ) -> Encoded
     requires planned { Planned (chosen src options plane.now palette.now profile.now) layout sizes }
-    requires profile_value { stream_used options.limit (chosen src options plane.now palette.now profile.now) ≡ false }
-    requires profile_value_2 { profile.now ≡ tail_of (chosen src options plane.now palette.now profile.now) }
+    requires stream_unused { stream_used options.limit (chosen src options plane.now palette.now profile.now) ≡ false }
+    requires profile_written { profile.now ≡ tail_of (chosen src options plane.now palette.now profile.now) }
     requires file_le_max_file { sizes.file ≤ max_file }
     requires file_in_bounds { at + sizes.file ≤ length buf.old }
-    ensures value { result ≡ encoded_for Passed (chosen src options plane.now palette.now profile.now) }
+    ensures answer { result ≡ encoded_for Passed (chosen src options plane.now palette.now profile.now) }
     ensures buf_after { buf.new ≡ put buf.old at (file_of options.limit (chosen src options plane.now palette.now profile.now)) }
     ensures starts_after { starts.new ≡ noted_for Passed (chosen src options plane.now palette.now profile.now) starts.old }
 {
@@ -273,9 +273,9 @@ fn write_into(
     starts: &mut [u64],
 ) -> Encoded
     requires planned { Planned (chosen src options plane.now palette.now profile.now) layout sizes }
-    requires profile_value { profile.now ≡ tail_of (chosen src options plane.now palette.now profile.now) }
+    requires profile_written { profile.now ≡ tail_of (chosen src options plane.now palette.now profile.now) }
     requires bound_in_bounds { at + sizes.bound ≤ length buf.old }
-    ensures value { result ≡ encoded_for (stream_check (chosen src options plane.now palette.now profile.now)) (chosen src options plane.now palette.now profile.now) }
+    ensures answer { result ≡ encoded_for (stream_check (chosen src options plane.now palette.now profile.now)) (chosen src options plane.now palette.now profile.now) }
     ensures buf_after { buf.new ≡ later_for (stream_check (chosen src options plane.now palette.now profile.now)) (chosen src options plane.now palette.now profile.now) at buf.old }
     ensures starts_after { starts.new ≡ noted_for (stream_check (chosen src options plane.now palette.now profile.now)) (chosen src options plane.now palette.now profile.now) starts.old }
 {

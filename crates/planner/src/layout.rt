@@ -212,8 +212,8 @@ pub(crate) fn layout_of(
     options: EncodeOptions,
     palette_bytes: usize,
 ) -> Layout
-    requires mode_value { mode ≡ mode_of src options }
-    requires k_value { options.has_bitfields ≡ true → (k : ℕ) → k < 4 → is_one_run (get_or options.bitfields.masks k 0) ≡ true }
+    requires mode_chosen { mode ≡ mode_of src options }
+    requires masks_checked { options.has_bitfields ≡ true → (k : ℕ) → k < 4 → is_one_run (get_or options.bitfields.masks k 0) ≡ true }
     ensures { result ≡ layout_of src options palette_bytes }
 {
     let format = src.format;

@@ -161,7 +161,7 @@ fn sizes_for(
     requires limit_le_max_file { limit ≤ max_file }
     requires head_bound { head ≤ 1162 }
     requires raw_bound { raw + 2 ^ 33 ≤ 2 ^ 64 }
-    requires profile_bytes_value { is_stream layout.coding ≡ true → profile_bytes ≡ 0 }
+    requires stream_unprofiled { is_stream layout.coding ≡ true → profile_bytes ≡ 0 }
     ensures { result ≡ sizes_plan limit layout head raw profile_bytes width }
 {
     let coding = layout.coding;
@@ -209,8 +209,8 @@ pub(crate) fn plan_for(
     palette_bytes: usize,
     profile_bytes: usize,
 ) -> Plan
-    requires mode_value { mode ≡ mode_of src options }
-    requires profile_bytes_value { wants_rle src options ≡ true → profile_bytes ≡ 0 }
+    requires mode_chosen { mode ≡ mode_of src options }
+    requires stream_unprofiled { wants_rle src options ≡ true → profile_bytes ≡ 0 }
     ensures { PlannedBy src options plane_bytes palette_bytes profile_bytes result }
 {
     let check = checks(src, options, plane_bytes, palette_bytes);

@@ -160,8 +160,8 @@ pub(crate) fn head_outside(n: usize, t: HeadFields) -> bool
 
 // 18, of a file that has what the writer writes.
 fn outside_file(file: &[u8], t: HeadFields) -> bool
-    requires t_value { fields_in t ≡ fields_of file.now }
-    requires file_value { never_written file.now ≡ false }
+    requires fields_read { fields_in t ≡ fields_of file.now }
+    requires not_17 { never_written file.now ≡ false }
     ensures { result ≡ outside_file file.now }
 {
     let n = file.len();

@@ -64,10 +64,10 @@ fn put_words16(
     cells: &mut [u32],
     to: usize,
 )
-    requires channels_value { channels ≡ channels_for file.now compression }
+    requires channels_read { channels ≡ channels_for file.now compression }
     requires channels_ok { ChannelsOk channels }
     requires n_in_bounds { from + n * 2 ≤ length file.now }
-    requires n_in_bounds_2 { to + n * 4 ≤ length cells.old }
+    requires cells_in_bounds { to + n * 4 ≤ length cells.old }
     ensures { cells.new ≡ put cells.old to (cat (λ x. quad_under channels (cell_word 16 (drop from file.now) x)) n) }
 {
     if compression == BI_RGB {
@@ -97,7 +97,7 @@ pub(crate) fn put_row(
     to: usize,
 )
     requires written_kind { WrittenKind (fields_in t) }
-    requires channels_value { channels ≡ channels_for file.now t.compression }
+    requires channels_read { channels ≡ channels_for file.now t.compression }
     requires channels_ok { ChannelsOk channels }
     requires depth_in_bounds { from + row_stride t.width t.depth ≤ length file.now }
     requires t_in_bounds { to + t.width * numbers_each (fields_in t) ≤ length cells.old }
@@ -171,10 +171,10 @@ pub(crate) fn fill_stream(
     cells: &mut [u32],
 )
     requires offset_bound { offset < 2 ^ 32 }
-    requires fact { (depth ≡ 4) ⊎ (depth ≡ 8) }
+    requires known_depth { (depth ≡ 4) ⊎ (depth ≡ 8) }
     requires width_bound { width < 2 ^ 31 }
     requires height_nonzero { 0 < height }
-    requires height_value { is_refused (decode depth width (drop offset file.now) (height - 1)) ≡ false }
+    requires not_refused { is_refused (decode depth width (drop offset file.now) (height - 1)) ≡ false }
     requires width_in_bounds { height * width ≤ length cells.old }
     ensures { cells.new ≡ put cells.old 0 (stream_numbers width height (cells_in (decode depth width (drop offset file.now) (height - 1)))) }
 {

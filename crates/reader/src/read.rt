@@ -89,10 +89,10 @@ fn refused(refusal: u32) -> Reading
 
 // Fills in the cells of a file that no number refuses.
 fn fill_cells(file: &[u8], t: HeadFields, cells: &mut [u32])
-    requires t_value { fields_in t ≡ fields_of file.now }
-    requires file_value { never_written file.now ≡ false }
-    requires file_value_2 { outside_file file.now ≡ false }
-    requires file_value_3 { stream_fails file.now ≡ false }
+    requires fields_read { fields_in t ≡ fields_of file.now }
+    requires not_17 { never_written file.now ≡ false }
+    requires not_18 { outside_file file.now ≡ false }
+    requires not_19 { stream_fails file.now ≡ false }
     requires t_in_bounds { cell_count (fields_in t) ≤ length cells.old }
     ensures { cells.new ≡ put cells.old 0 (numbers_of (rows_in file.now)) }
 {
@@ -112,9 +112,9 @@ fn fill_cells(file: &[u8], t: HeadFields, cells: &mut [u32])
 
 // 19, of a file that 17 and 18 do not refuse.
 fn fails(file: &[u8], t: HeadFields) -> bool
-    requires t_value { fields_in t ≡ fields_of file.now }
-    requires file_value { never_written file.now ≡ false }
-    requires file_value_2 { outside_file file.now ≡ false }
+    requires fields_read { fields_in t ≡ fields_of file.now }
+    requires not_17 { never_written file.now ≡ false }
+    requires not_18 { outside_file file.now ≡ false }
     ensures { result ≡ stream_fails file.now }
 {
     if !is_coded(t.compression) {

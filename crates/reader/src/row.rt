@@ -28,9 +28,9 @@ fn row_outside(n: usize, t: HeadFields, start: usize) -> bool
 
 // 19, of a file whose head 17 and 18 do not refuse.
 fn row_fails(file: &[u8], t: HeadFields, start: usize) -> bool
-    requires t_value { fields_in t ≡ fields_of file.now }
-    requires file_value { never_written file.now ≡ false }
-    requires t_value_2 { head_outside (length file.now) (fields_in t) ≡ false }
+    requires fields_read { fields_in t ≡ fields_of file.now }
+    requires not_17 { never_written file.now ≡ false }
+    requires head_inside { head_outside (length file.now) (fields_in t) ≡ false }
     ensures { result ≡ row_fails file.now (fields_in t) start }
 {
     if !is_coded(t.compression) {
@@ -65,8 +65,8 @@ fn row_number(file: &[u8], t: HeadFields, start: usize, cells: usize) -> u32
 
 // Fills in the numbers of a row that no number refuses.
 fn fill_one(file: &[u8], t: HeadFields, start: usize, cells: &mut [u32])
-    requires t_value { fields_in t ≡ fields_of file.now }
-    requires cells_value { first_applying (row_rows file.now start (length cells.old)) ≡ 0 }
+    requires fields_read { fields_in t ≡ fields_of file.now }
+    requires none_applies { first_applying (row_rows file.now start (length cells.old)) ≡ 0 }
     ensures { ShowsRow file.now start cells.old cells.new }
 {
     if is_coded(t.compression) {

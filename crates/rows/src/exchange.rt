@@ -80,7 +80,7 @@ fn exchanged_byte(before: u8, here: u8, after: u8, j: usize) -> u8
 
 // Sixteen cells of a row with red first, from byte i on. By way of a local array it is vector code.
 fn exchange_sixteen(src: &[u8], i: usize, dst: &mut [u8], at: usize)
-    requires i_value { i % 3 ≡ 0 }
+    requires cell_start { i % 3 ≡ 0 }
     requires le_i { 2 ≤ i }
     requires i_in_bounds { i + 50 ≤ length src.now }
     requires at_in_bounds { at + 48 ≤ length dst.old }

@@ -12,7 +12,7 @@ use leaves::types::row_stride;
 
 // Byte i of a row of indices, packed to bpp bits: 0 where it starts after the last cell.
 fn packed_byte(src: &[u8], bpp: u16, i: usize) -> u8
-    requires bpp_value { has_table bpp ≡ true }
+    requires table_depth { has_table bpp ≡ true }
     requires i_bound { i < 2 ^ 40 }
     ensures { result ≡ packed_byte_of bpp (λ x. slice_index src.now x) i }
 {
@@ -34,7 +34,7 @@ fn packed_byte(src: &[u8], bpp: u16, i: usize) -> u8
 
 // The bytes of a row after the first `from`, of n in all, one by one.
 fn pack_tail(src: &[u8], bpp: u16, from: usize, n: usize, dst: &mut [u8], at: usize)
-    requires bpp_value { has_table bpp ≡ true }
+    requires table_depth { has_table bpp ≡ true }
     requires n_bound { n < 2 ^ 40 }
     requires n_in_bounds { at + n ≤ length dst.old }
     ensures { dst.new ≡ put dst.old (at + from) (drop from (packed bpp src.now n)) }
@@ -108,7 +108,7 @@ fn pack_folded(src: &[u8], bpp: u16, n: usize, dst: &mut [u8], at: usize)
 
 // The first n bytes of indices packed to bpp bits.
 pub(crate) fn pack_bytes(src: &[u8], bpp: u16, n: usize, dst: &mut [u8], at: usize)
-    requires bpp_value { has_table bpp ≡ true }
+    requires table_depth { has_table bpp ≡ true }
     requires n_bound { n < 2 ^ 40 }
     requires n_in_bounds { at + n ≤ length dst.old }
     ensures { dst.new ≡ put dst.old at (packed bpp src.now n) }
@@ -130,7 +130,7 @@ pub(crate) fn pack_bytes(src: &[u8], bpp: u16, n: usize, dst: &mut [u8], at: usi
 
 // A row of indices, packed to bpp bits.
 pub(crate) fn pack_indices(src: &[u8], bpp: u16, dst: &mut [u8], at: usize)
-    requires bpp_value { has_table bpp ≡ true }
+    requires table_depth { has_table bpp ≡ true }
     requires src_len_bound { length src.now < 2 ^ 32 }
     requires bpp_in_bounds { at + row_stride (length src.now) bpp ≤ length dst.old }
     ensures { dst.new ≡ put dst.old at (packed bpp src.now (row_stride (length src.now) bpp)) }

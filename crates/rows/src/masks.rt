@@ -60,7 +60,7 @@ fn field_of(fields: &[u32], first: usize, sample: u8) -> u32
 fn short_field(channel: MaskShiftLen, sample: u32) -> u32
     requires sample_bound { sample < 256 }
     requires len_bound { channel.len ≤ 8 }
-    requires len_bound_2 { channel.shift + channel.len ≤ 32 }
+    requires channel_in_word { channel.shift + channel.len ≤ 32 }
     ensures { result ≡ field channel sample }
 {
     (sample >> (8 - channel.len)) << (channel.shift % 32)
@@ -78,7 +78,7 @@ fn longer(a: u32, b: u32) -> u32
 
 // Stores a word as a cell of 16 or 32 bits.
 fn put_cell(bpp: u16, word: u32, dst: &mut [u8], at: usize)
-    requires fact { (bpp ≡ 16) ⊎ (bpp ≡ 32) }
+    requires known_depth { (bpp ≡ 16) ⊎ (bpp ≡ 32) }
     requires bpp_in_bounds { at + bpp / 8 ≤ length dst.old }
     ensures { dst.new ≡ put dst.old at (if nat_eq bpp 16 then le16 word else le32 word) }
 {
@@ -121,9 +121,9 @@ impl MaskLayout {
 
     // The word of pixel x of a row with red first.
     fn word(self, fields: &[u32], src: &[u8], in_bpp: usize, x: usize) -> u32
-        requires fact { (in_bpp ≡ 3) ⊎ (in_bpp ≡ 4) }
+        requires known_size { (in_bpp ≡ 3) ⊎ (in_bpp ≡ 4) }
         requires in_bpp_in_bounds { x * in_bpp + in_bpp ≤ length src.now }
-        requires fields_value { fields.now ≡ fields_of self false }
+        requires fields_made { fields.now ≡ fields_of self false }
         ensures { result ≡ mask_word self in_bpp false src.now x }
     {
         let s = x * in_bpp;
@@ -146,10 +146,10 @@ impl MaskLayout {
         at: usize,
     )
         requires layout_ok { LayoutOk self }
-        requires fact { (in_bpp ≡ 3) ⊎ (in_bpp ≡ 4) }
+        requires known_size { (in_bpp ≡ 3) ⊎ (in_bpp ≡ 4) }
         requires src_len { length src.now ≡ width * in_bpp }
         requires bpp_in_bounds { at + width * (self.bpp / 8) ≤ length dst.old }
-        requires fields_value { fields.now ≡ fields_of self false }
+        requires fields_made { fields.now ≡ fields_of self false }
         ensures { dst.new ≡ put dst.old at (cat (mask_cell self in_bpp false src.now) width) }
     {
         let w = width as usize;
@@ -228,7 +228,7 @@ impl MaskLayout {
     fn short_cells16(self, src: &[u8], width: u32, dst: &mut [u8], at: usize)
         requires layout_ok { LayoutOk self }
         requires short_ok { ShortOk self }
-        requires bpp_value { self.bpp ≡ 16 }
+        requires depth_16 { self.bpp ≡ 16 }
         requires src_len { length src.now ≡ width * 4 }
         requires width_in_bounds { at + width * 2 ≤ length dst.old }
         ensures { dst.new ≡ put dst.old at (cat (mask_cell self 4 false src.now) width) }
@@ -246,7 +246,7 @@ impl MaskLayout {
     fn short_cells32(self, src: &[u8], width: u32, dst: &mut [u8], at: usize)
         requires layout_ok { LayoutOk self }
         requires short_ok { ShortOk self }
-        requires bpp_value { self.bpp ≡ 32 }
+        requires depth_32 { self.bpp ≡ 32 }
         requires src_len { length src.now ≡ width * 4 }
         requires width_in_bounds { at + width * 4 ≤ length dst.old }
         ensures { dst.new ≡ put dst.old at (cat (mask_cell self 4 false src.now) width) }
@@ -287,10 +287,10 @@ impl MaskLayout {
         at: usize,
     )
         requires layout_ok { LayoutOk self }
-        requires fact { (in_bpp ≡ 3) ⊎ (in_bpp ≡ 4) }
+        requires known_size { (in_bpp ≡ 3) ⊎ (in_bpp ≡ 4) }
         requires src_len { length src.now ≡ width * in_bpp }
         requires bpp_in_bounds { at + row_stride width self.bpp ≤ length dst.old }
-        requires fields_value { fields.now ≡ fields_of self bgr }
+        requires fields_made { fields.now ≡ fields_of self bgr }
         ensures { dst.new ≡ put dst.old at (stored_row (Masks in_bpp bgr self) width src.now) }
     {
         let layout = self.ordered(bgr);

@@ -69,7 +69,7 @@ fn copy_rows(
     requires bytes_le_stride { bytes ≤ stride }
     requires bytes_le_stored { bytes ≤ stored }
     requires height_in_bounds { stride * height ≤ length plane.now }
-    requires height_in_bounds_2 { at + stored * height ≤ length dst.old }
+    requires dst_in_bounds { at + stored * height ≤ length dst.old }
     requires origin_le_at { origin ≤ at }
     ensures dst_after { dst.new ≡ put dst.old at (cat (λ s. padded stored (source_row plane.now stride bytes (row_of top_down height s))) height) }
     ensures starts_after { starts.new ≡ noted (λ s. at - origin + s * stored) starts.old height }
@@ -255,7 +255,7 @@ impl RowPack {
         requires pack_ok { PackOk self }
         requires self_bound { width * pack_bytes self ≤ stride }
         requires height_in_bounds { stride * height ≤ length plane.now }
-        requires height_in_bounds_2 { at + row_stride width (pack_bits self) * height ≤ length dst.old }
+        requires dst_in_bounds { at + row_stride width (pack_bits self) * height ≤ length dst.old }
         requires origin_le_at { origin ≤ at }
         requires fields_ok { FieldsOk self fields.now }
         ensures dst_after { dst.new ≡ put dst.old at (stored_rows self width height top_down plane.now stride) }
@@ -294,7 +294,7 @@ impl RowPack {
         requires pack_ok { PackOk self }
         requires self_bound { width * pack_bytes self ≤ stride }
         requires height_in_bounds { stride * height ≤ length plane.now }
-        requires height_in_bounds_2 { at + row_stride width (pack_bits self) * height ≤ length dst.old }
+        requires dst_in_bounds { at + row_stride width (pack_bits self) * height ≤ length dst.old }
         requires origin_le_at { origin ≤ at }
         ensures dst_after { dst.new ≡ put dst.old at (stored_rows self width height top_down plane.now stride) }
         ensures starts_after { starts.new ≡ noted (λ s. at - origin + s * row_stride width (pack_bits self)) starts.old height }

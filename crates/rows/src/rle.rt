@@ -243,7 +243,7 @@ pub fn rle_into(
     requires height_in_bounds { stride * height ≤ length plane.now }
     requires stride_in_bounds { at + length (stream (depth_of (is_rle4 rle)) width height plane.now stride) ≤ length buf.old }
     requires origin_le_at { origin ≤ at }
-    ensures value { (result ≡ at + length (stream (depth_of (is_rle4 rle)) width height plane.now stride))
+    ensures answer { (result ≡ at + length (stream (depth_of (is_rle4 rle)) width height plane.now stride))
         × (buf.new ≡ put buf.old at (stream (depth_of (is_rle4 rle)) width height plane.now stride)) }
     ensures starts_after { starts.new ≡ noted (λ s. at - origin + stream_start (depth_of (is_rle4 rle)) width height plane.now stride s) starts.old height }
 {

@@ -14,10 +14,10 @@ returns-then-base-eq16 c =
     omega (arith, ap (λ (b : ℕ). a.number * b) c.if-base-eq16.true)
 
 pub overflow_add-result-2 : goal.overflow_add-result-2
-overflow_add-result-2 c = omega (arith, ten c.args.base c.requires.fact c.if-base-eq16.false)
+overflow_add-result-2 c = omega (arith, ten c.args.base c.requires.known_base c.if-base-eq16.false)
 
 pub returns : goal.returns
 returns c =
     let a = c.args in
-    let e : a.base ≡ 10 = ten a.base c.requires.fact c.if-base-eq16.false in
+    let e : a.base ≡ 10 = ten a.base c.requires.known_base c.if-base-eq16.false in
     omega (arith, ap (λ (b : ℕ). a.number * b) e)

@@ -53,7 +53,7 @@ returns-then-d-base c =
     (stop a.base l.number a.text.now l.i d.result d.ensures.0 (omega arith) bad ∙ l.invariant.2, omega arith)
 
 pub appended-number-requires : goal.appended-number-requires
-appended-number-requires c = record { number_bound = leb-false (2 ^ 56) c.loop-i.number c.if-number-ge72057594037927936.false-raw; fact = c.requires; digit_lt_base = c.if-d-base.false }
+appended-number-requires c = record { number_bound = leb-false (2 ^ 56) c.loop-i.number c.if-number-ge72057594037927936.false-raw; known_base = c.requires; digit_lt_base = c.if-d-base.false }
 
 pub loop-i-preserved : goal.loop-i-preserved
 loop-i-preserved c =

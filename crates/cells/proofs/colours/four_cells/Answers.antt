@@ -12,7 +12,7 @@ unfolding tab
 loop-k-init c = (omega arith, refl, refl)
 
 pub known_place-requires : goal.known_place-requires
-known_place-requires c = record { fact = c.requires.fact; k_bound = omega arith }
+known_place-requires c = record { known_size = c.requires.known_size; k_bound = omega arith }
 
 pub bounds-numbers-k : goal.bounds-numbers-k
 bounds-numbers-k c = omega (arith, c.loop-k.invariant.1)
@@ -24,7 +24,7 @@ pub slice_bounds-widen-end : goal.slice_bounds-widen-end
 slice_bounds-widen-end c = sym c.loop-k.invariant.1
 
 pub widen-requires : goal.widen-requires
-widen-requires c = record { n_in_bounds = omega (arith, c.loop-k.invariant.1); n_in_bounds_2 = omega arith }
+widen-requires c = record { n_in_bounds = omega (arith, c.loop-k.invariant.1); cells_in_bounds = omega arith }
 
 pub returns : goal.returns
-returns c = let a = c.args in let l = c.loop-k in c.widen.ensures ∙ ap (put a.cells.now a.to) (widened a.file.now l.numbers a.from a.size (λ i. (c.shared_slice_known-1.given i).fits) (filled l.numbers (number_at a.file.now a.from a.size) l.k 16 l.invariant.1 l.invariant.0 (omega arith) l.invariant.2) ∙ four_numbers a.file.now a.from a.size c.requires.fact (omega arith))
+returns c = let a = c.args in let l = c.loop-k in c.widen.ensures ∙ ap (put a.cells.now a.to) (widened a.file.now l.numbers a.from a.size (λ i. (c.shared_slice_known-1.given i).fits) (filled l.numbers (number_at a.file.now a.from a.size) l.k 16 l.invariant.1 l.invariant.0 (omega arith) l.invariant.2) ∙ four_numbers a.file.now a.from a.size c.requires.known_size (omega arith))

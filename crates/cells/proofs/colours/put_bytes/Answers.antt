@@ -10,16 +10,16 @@ use native.Mathlib.Omega.{arith}
 use Rattle.cells.proofs.colours.put_bytes.Goals as goal
 
 pub each_cell-requires : goal.each_cell-requires
-each_cell-requires c = let a = c.args in record { le_size = (three_or_four a.size c.requires.fact).0; size_in_bounds = c.requires.size_in_bounds; n_in_bounds = c.requires.n_in_bounds }
+each_cell-requires c = let a = c.args in record { le_size = (three_or_four a.size c.requires.known_size).0; size_in_bounds = c.requires.size_in_bounds; n_in_bounds = c.requires.n_in_bounds }
 
 pub returns-then-n-lt2 : goal.returns-then-n-lt2
 returns-then-n-lt2 c = c.each_cell.ensures
 
 pub each_cell-requires-2 : goal.each_cell-requires-2
-each_cell-requires-2 c = let a = c.args in record { le_size = (three_or_four a.size c.requires.fact).0; size_in_bounds = omega (arith, c.requires.size_in_bounds, cells_room a.size (0) (2) a.n (omega arith)); n_in_bounds = omega arith }
+each_cell-requires-2 c = let a = c.args in record { le_size = (three_or_four a.size c.requires.known_size).0; size_in_bounds = omega (arith, c.requires.size_in_bounds, cells_room a.size (0) (2) a.n (omega arith)); n_in_bounds = omega arith }
 
 pub overflow_mul-p : goal.overflow_mul-p
-overflow_mul-p c = let a = c.args in omega (arith, three_or_four a.size c.requires.fact)
+overflow_mul-p c = let a = c.args in omega (arith, three_or_four a.size c.requires.known_size)
 
 pub overflow_add-p : goal.overflow_add-p
 overflow_add-p c = let a = c.args in omega (arith, c.requires.size_in_bounds, cells_room a.size (0) (2) a.n (omega arith), c.well_formed)
@@ -34,10 +34,10 @@ pub overflow_sub-n : goal.overflow_sub-n
 overflow_sub-n c = c.loop-x.invariant.1
 
 pub four_cells-requires : goal.four_cells-requires
-four_cells-requires c = let a = c.args in let l = c.loop-x in record { fact = c.requires.fact; le_from = omega (arith, l.invariant.2, l.invariant.0, three_or_four a.size c.requires.fact, two_before a.size l.x l.invariant.0); from_in_bounds = omega (arith, l.invariant.2, c.requires.size_in_bounds, three_or_four a.size c.requires.fact, cells_room a.size l.x (6) a.n (omega arith)); to_in_bounds = omega (arith, l.invariant.3, l.invariant.4, c.cells-2-1.given) }
+four_cells-requires c = let a = c.args in let l = c.loop-x in record { known_size = c.requires.known_size; le_from = omega (arith, l.invariant.2, l.invariant.0, three_or_four a.size c.requires.known_size, two_before a.size l.x l.invariant.0); from_in_bounds = omega (arith, l.invariant.2, c.requires.size_in_bounds, three_or_four a.size c.requires.known_size, cells_room a.size l.x (6) a.n (omega arith)); to_in_bounds = omega (arith, l.invariant.3, l.invariant.4, c.cells-2-1.given) }
 
 pub overflow_mul-p-in-loop-x : goal.overflow_mul-p-in-loop-x
-overflow_mul-p-in-loop-x c = let a = c.args in let l = c.loop-x in omega (arith, three_or_four a.size c.requires.fact)
+overflow_mul-p-in-loop-x c = let a = c.args in let l = c.loop-x in omega (arith, three_or_four a.size c.requires.known_size)
 
 pub overflow_add-p-in-loop-x : goal.overflow_add-p-in-loop-x
 overflow_add-p-in-loop-x c = let a = c.args in let l = c.loop-x in omega (arith, l.invariant.2, c.requires.size_in_bounds, cells_room a.size l.x (4) a.n (omega arith), c.well_formed)
@@ -52,7 +52,7 @@ pub overflow_sub-n-2 : goal.overflow_sub-n-2
 overflow_sub-n-2 c = c.loop-x.invariant.1
 
 pub each_cell-requires-3 : goal.each_cell-requires-3
-each_cell-requires-3 c = let a = c.args in let l = c.loop-x in record { le_size = (three_or_four a.size c.requires.fact).0; size_in_bounds = omega (arith, l.invariant.2, c.requires.size_in_bounds, cells_room a.size l.x (a.n - l.x) a.n (omega arith)); n_in_bounds = omega (arith, l.invariant.3, l.invariant.4) }
+each_cell-requires-3 c = let a = c.args in let l = c.loop-x in record { le_size = (three_or_four a.size c.requires.known_size).0; size_in_bounds = omega (arith, l.invariant.2, c.requires.size_in_bounds, cells_room a.size l.x (a.n - l.x) a.n (omega arith)); n_in_bounds = omega (arith, l.invariant.3, l.invariant.4) }
 
 pub shape_of-cells : goal.shape_of-cells
 shape_of-cells c = let a = c.args in let l = c.loop-x in omega (arith, l.invariant.4)

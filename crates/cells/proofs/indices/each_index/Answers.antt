@@ -9,7 +9,7 @@ pub loop-x-init : goal.loop-x-init
 loop-x-init c = let a = c.args in (omega arith, tab_start (cell_at a.depth (drop a.from a.file.now)))
 
 pub packed_index-requires : goal.packed_index-requires
-packed_index-requires c = let a = c.args in let l = c.loop-x in record { depth_value = c.requires.depth_value; x_bound = omega arith; depth_in_bounds = omega (arith, bits_inside a.depth l.x a.n c.requires.depth_value (omega arith)) }
+packed_index-requires c = let a = c.args in let l = c.loop-x in record { table_depth = c.requires.table_depth; x_bound = omega arith; depth_in_bounds = omega (arith, bits_inside a.depth l.x a.n c.requires.table_depth (omega arith)) }
 
 pub overflow_add-cells : goal.overflow_add-cells
 overflow_add-cells c = omega (arith, c.loop-x.invariant.1.long)

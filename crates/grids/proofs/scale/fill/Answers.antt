@@ -19,7 +19,7 @@ index-shown-requires c =
     let a = c.args in
     let p = c.requires in
     let s = c.spread in
-    let l = c.loop-k in record { levels = levels a.edges.now s.new.ends s.new.blocks p.edges_value s.ensures; self_value = each_quote a.lows.now a.highs.now (length a.lows.now) l.k p.lows_value (omega arith) }
+    let l = c.loop-k in record { levels = levels a.edges.now s.new.ends s.new.blocks p.edges_rise s.ensures; one_quote = each_quote a.lows.now a.highs.now (length a.lows.now) l.k p.all_quotes (omega arith) }
 
 pub loop-k-preserved : goal.loop-k-preserved
 unfolding quote_at
@@ -30,7 +30,7 @@ loop-k-preserved c =
     let l = c.loop-k in (
       omega arith,
       simp length-set l.invariant.1,
-      paint_turn a.edges.now a.lows.now a.highs.now l.plane l.k c.index-shown.result (omega arith) (omega arith) (c.index-shown.ensures ∙ same_index a.edges.now s.new.ends s.new.blocks p.edges_value s.ensures (quote_at a.lows.now a.highs.now l.k)) ∙ l.invariant.2,
+      paint_turn a.edges.now a.lows.now a.highs.now l.plane l.k c.index-shown.result (omega arith) (omega arith) (c.index-shown.ensures ∙ same_index a.edges.now s.new.ends s.new.blocks p.edges_rise s.ensures (quote_at a.lows.now a.highs.now l.k)) ∙ l.invariant.2,
     )
 
 pub returns : goal.returns

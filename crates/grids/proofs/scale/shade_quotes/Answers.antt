@@ -18,7 +18,7 @@ pub fill-requires : goal.fill-requires
 fill-requires c =
     let a = c.args in
     let s = c.is_scale-scale in
-    let q = c.are_quotes-quotes in record { lows_in_bounds = omega arith; lows_in_bounds_2 = omega arith; edges_value = passes s.result (not_scale a.edges.now) s.ensures c.if-scale.true; lows_value = passes q.result (some_not_quote a.lows.now a.highs.now (length a.lows.now)) q.ensures c.if-quotes.true }
+    let q = c.are_quotes-quotes in record { lows_in_bounds = omega arith; plane_in_bounds = omega arith; edges_rise = passes s.result (not_scale a.edges.now) s.ensures c.if-scale.true; all_quotes = passes q.result (some_not_quote a.lows.now a.highs.now (length a.lows.now)) q.ensures c.if-quotes.true }
 
 pub returns-then-quotes : goal.returns-then-quotes
 returns-then-quotes c =

@@ -73,7 +73,7 @@ unfolding union_of cat
 loop-k-init c = (elim (c.else-bpp-ne16.branch) [ else-bpp-ne16-via-then-bpp-ne16+else-bpp-ne32 w ↦ inr (eqb-true c.args.bpp 32 (not-false (eqb c.args.bpp 32) w.if-bpp-ne32.false-raw)) | else-bpp-ne16-via-else-bpp-ne16 w ↦ inl w.if-bpp-ne16.false ], omega arith, refl, refl)
 
 pub validate_mask-check-requires : goal.validate_mask-check-requires
-validate_mask-check-requires c = record { fact = c.loop-k.invariant.0; k_bound = omega arith; union_value = c.loop-k.invariant.2 }
+validate_mask-check-requires c = record { known_depth = c.loop-k.invariant.0; k_bound = omega arith; union_so_far = c.loop-k.invariant.2 }
 
 pub returns-in-Refused : goal.returns-in-Refused
 returns-in-Refused c =

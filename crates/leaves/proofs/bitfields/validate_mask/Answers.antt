@@ -61,10 +61,10 @@ pub returns-then-union-mask-ne0 : goal.returns-then-union-mask-ne0
 returns-then-union-mask-ne0 c =
     let a = c.args in
     overlap a.bpp a.masks a.k c.mask_limit.result c.mask_limit.ensures c.if-mask-eq0.false c.if-mask-mask_limit.false (sym c.is_contiguous.ensures ∙ not-false c.is_contiguous.result c.if-not-is_contiguous.false-raw)
-    (shared a.masks a.k a.union c.requires.union_value c.if-union-mask-ne0.true)
+    (shared a.masks a.k a.union c.requires.union_so_far c.if-union-mask-ne0.true)
 
 pub returns : goal.returns
 returns c =
     let a = c.args in
     clear a.bpp a.masks a.k c.mask_limit.result c.mask_limit.ensures c.if-mask-eq0.false c.if-mask-mask_limit.false (sym c.is_contiguous.ensures ∙ not-false c.is_contiguous.result c.if-not-is_contiguous.false-raw)
-    (apart a.masks a.k a.union c.requires.union_value c.if-union-mask-ne0.false)
+    (apart a.masks a.k a.union c.requires.union_so_far c.if-union-mask-ne0.false)

@@ -20,7 +20,7 @@ plan_for-plan-requires c =
     let i = called a.src a.options a.plane.now a.palette.now a.icc.now a.linked_icc.now in
     let t = c.tail-profile in
     let own = t.ensures ∙ ap (λ (x : Mode). tail_in x a.src.has_linked_icc a.icc.now a.linked_icc.now) c.mode_of-mode.ensures in
-    record { mode_value = c.mode_of-mode.ensures; profile_bytes_value = stream_alone i (length t.result.now) (ap length own) }
+    record { mode_chosen = c.mode_of-mode.ensures; stream_unprofiled = stream_alone i (length t.result.now) (ap length own) }
 
 pub returns-in_default : goal.returns-in_default
 returns-in_default c =
@@ -61,7 +61,7 @@ write_into-requires c =
     let own = t.ensures ∙ ap (λ (x : Mode). tail_in x a.src.has_linked_icc a.icc.now a.linked_icc.now) c.mode_of-mode.ensures in
     let p = plan_ready i c.plan_for-plan.result (length t.result.now) (ap length own) c.plan_for-plan.ensures c.in-Ready.layout c.in-Ready.sizes c.in-Ready.is in
     let r = room_left i (length a.out.now) a.offset (length a.starts.now) a.needed c.in-Ready.sizes.bound c.too_short.result p.passed (plan_bound_lem i c.in-Ready.sizes p.sizes_are) c.too_short.ensures c.if-too_short.false in
-    record { planned = same_plan i t.result.now own c.in-Ready.layout c.in-Ready.sizes p; profile_value = own_tail i t.result.now own; bound_in_bounds = r.long }
+    record { planned = same_plan i t.result.now own c.in-Ready.layout c.in-Ready.sizes p; profile_written = own_tail i t.result.now own; bound_in_bounds = r.long }
 
 pub returns : goal.returns
 returns c =
@@ -78,7 +78,7 @@ returns c =
     let outcome = starts_left i (length a.out.now) a.offset (length a.starts.now) a.needed r c.if-starts-needed.false in
     let decides = first_of (list_rows a.options.limit i (length a.out.now) a.offset (length a.starts.now) a.needed) in
     record {
-      answers = w.ensures.value ∙ same_answer i t.result.now own ∙ ap (λ (k : Check). encoded_for k i) (sym outcome);
+      answers = w.ensures.answer ∙ same_answer i t.result.now own ∙ ap (λ (k : Check). encoded_for k i) (sym outcome);
       buffer = w.ensures.buf_after ∙ same_later i t.result.now own a.offset a.out.now ∙ ap (λ (k : Check). later_for k i a.offset a.out.now) (sym outcome);
       list = w.ensures.starts_after ∙ same_noted i t.result.now own a.starts.now ∙ ap (λ (k : Check). noted_for k i a.starts.now) (sym outcome);
       inside = λ q. r.inside;

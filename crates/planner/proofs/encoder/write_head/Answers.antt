@@ -12,7 +12,7 @@ use Rattle.planner.proofs.Longs.{long_of}
 use Rattle.planner.proofs.encoder.write_head.Goals as goal
 
 pub overflow_add-at : goal.overflow_add-at
-overflow_add-at c = record { fits = omega (arith, c.requires.head_value, c.requires.head_in_bounds, c.well_formed.1.1.1.1.1.1.1.1.1.1.0) }
+overflow_add-at c = record { fits = omega (arith, c.requires.head_length, c.requires.head_in_bounds, c.well_formed.1.1.1.1.1.1.1.1.1.1.0) }
 
 pub write_rest-requires : goal.write_rest-requires
 write_rest-requires c =
@@ -21,18 +21,18 @@ write_rest-requires c =
     let nine = g.0.1.0.1 in
     let three = g.1.0.1.0.1 in
     let rest = rest_room a.layout.mode a.src a.options nine three in
-    omega (arith, rest, c.requires.head_value, c.requires.head_in_bounds, c.write_first_fields.auto.buf)
+    omega (arith, rest, c.requires.head_length, c.requires.head_in_bounds, c.write_first_fields.auto.buf)
 
 pub overflow_add-at-2 : goal.overflow_add-at-2
 overflow_add-at-2 c = record { fits = omega (arith, c.requires.head_in_bounds, c.well_formed.1.1.1.1.1.1.1.1.1.1.0) }
 
 pub overflow_sub-at : goal.overflow_sub-at
 overflow_sub-at c =
-    omega (arith, c.requires.head_value)
+    omega (arith, c.requires.head_length)
 
 pub write_color_table-requires : goal.write_color_table-requires
 write_color_table-requires c =
-    record { entries_bound = c.requires.entries_bound; entries_in_bounds = omega (arith, c.requires.head_value, c.requires.head_in_bounds, c.write_first_fields.auto.buf, c.write_rest.auto.buf) }
+    record { entries_bound = c.requires.entries_bound; entries_in_bounds = omega (arith, c.requires.head_length, c.requires.head_in_bounds, c.write_first_fields.auto.buf, c.write_rest.auto.buf) }
 
 pub returns : goal.returns
 unfolding head_by
@@ -44,7 +44,7 @@ returns c =
     let w2 = c.write_rest in
     let w3 = c.write_color_table in
     head_written a.buf.now w1.new.buf w2.new.buf w3.new.buf a.palette.now a.at a.head (a.at + a.head - 4 * a.layout.entries) a.profile_size a.profile_data _ a.layout a.src a.options
-    c.requires.head_value c.requires.head_in_bounds refl w1.ensures w2.ensures w3.ensures
+    c.requires.head_length c.requires.head_in_bounds refl w1.ensures w2.ensures w3.ensures
     ∙ (λ z. put a.buf.now a.at (first_fields (record {
       file_size = a.file_size;
       pixel_offset = a.head;

@@ -31,7 +31,7 @@ write_stream-requires c =
     let p = c.requires.planned in
     let n = c.rle_len-count in
     let g = stream_under i a.layout a.sizes p c.in-Stream.rle n.result c.in-Stream.is n.ensures c.in-Under.len c.in-Under.is in
-    let none = c.requires.profile_value ∙ tail_empty i (used_in a.options.limit i g.0.used).planned in
+    let none = c.requires.profile_written ∙ tail_empty i (used_in a.options.limit i g.0.used).planned in
     record { streamed = subst (λ (x : List ℕ). Streamed (chosen a.src a.options a.plane.now a.palette.now x) a.layout a.sizes c.in-Stream.rle c.in-Under.len) none g.0; len_in_bounds = omega (arith, g.1.1, c.requires.bound_in_bounds) }
 
 pub returns-in-Under : goal.returns-in-Under
@@ -41,9 +41,9 @@ returns-in-Under c =
     let p = c.requires.planned in
     let n = c.rle_len-count in
     let g = stream_under i a.layout a.sizes p c.in-Stream.rle n.result c.in-Stream.is n.ensures c.in-Under.len c.in-Under.is in
-    let none = c.requires.profile_value ∙ tail_empty i (used_in a.options.limit i g.0.used).planned in
+    let none = c.requires.profile_written ∙ tail_empty i (used_in a.options.limit i g.0.used).planned in
     let w = c.write_stream in record {
-      value = answer_by i false g.1.0 w.result (w.ensures.value ∙ ap (λ (x : List ℕ). encoded_for Passed (chosen a.src a.options a.plane.now a.palette.now x)) (sym none));
+      answer = answer_by i false g.1.0 w.result (w.ensures.answer ∙ ap (λ (x : List ℕ). encoded_for Passed (chosen a.src a.options a.plane.now a.palette.now x)) (sym none));
       buf_after = later_by i false g.1.0 a.at a.buf.now w.new.buf
           (w.ensures.buf_after ∙ ap (λ (x : List ℕ). put a.buf.now a.at (file_of a.options.limit (chosen a.src a.options a.plane.now a.palette.now x))) (sym none));
       starts_after = noted_by i false g.1.0 a.starts.now w.new.starts
@@ -57,7 +57,7 @@ returns-then-not-sizes c =
     let p = c.requires.planned in
     let n = c.rle_len-count in
     let o = stream_over i a.layout a.sizes p c.in-Stream.rle n.result c.in-Stream.is n.ensures c.in_default-count.is (not-true a.sizes.file_fits c.if-not-sizes.true) in
-    record { value = answer_by i true o _ refl; buf_after = later_by i true o a.at a.buf.now a.buf.now refl; starts_after = noted_by i true o a.starts.now a.starts.now refl }
+    record { answer = answer_by i true o _ refl; buf_after = later_by i true o a.at a.buf.now a.buf.now refl; starts_after = noted_by i true o a.starts.now a.starts.now refl }
 
 pub write_rows-requires : goal.write_rows-requires
 write_rows-requires c =
@@ -68,7 +68,7 @@ write_rows-requires c =
       | in-Stream+in_default-count+else-not-sizes w ↦ rows_instead i a.layout a.sizes p w.in-Stream.rle w.rle_len-count.result w.in-Stream.is w.rle_len-count.ensures w.in_default-count.is (not-false a.sizes.file_fits w.if-not-sizes.false)
       | in_default w ↦ rows_alone i a.layout a.sizes p w.in_default.is
     ] in
-    record { planned = p; profile_value = g.unused; profile_value_2 = c.requires.profile_value; file_le_max_file = g.fits; file_in_bounds = omega (arith, g.room, c.requires.bound_in_bounds) }
+    record { planned = p; stream_unused = g.unused; profile_written = c.requires.profile_written; file_le_max_file = g.fits; file_in_bounds = omega (arith, g.room, c.requires.bound_in_bounds) }
 
 pub returns : goal.returns
 returns c =
@@ -80,4 +80,4 @@ returns c =
       | in_default w ↦ rows_alone i a.layout a.sizes p w.in_default.is
     ] in
     let w = c.write_rows in
-    record { value = answer_by i false g.over w.result w.ensures.value; buf_after = later_by i false g.over a.at a.buf.now w.new.buf w.ensures.buf_after; starts_after = noted_by i false g.over a.starts.now w.new.starts w.ensures.starts_after }
+    record { answer = answer_by i false g.over w.result w.ensures.answer; buf_after = later_by i false g.over a.at a.buf.now w.new.buf w.ensures.buf_after; starts_after = noted_by i false g.over a.starts.now w.new.starts w.ensures.starts_after }

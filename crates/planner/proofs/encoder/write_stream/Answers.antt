@@ -29,7 +29,7 @@ write_head-requires c =
     let k = c.requires.streamed in
     let head = sizes_head i a.sizes k.planned.sizes_are in
     let asked = head_asked i a.layout a.sizes.head k.planned.layout_is head in
-    record { height_nonzero = (plan_passed i k.planned.passed).0.some_height; entries_bound = asked.0; head_le_max_file = omega (arith, stream_small i a.layout a.sizes a.rle a.len k); head_value = asked.1; head_in_bounds = omega (arith, c.requires.len_in_bounds) }
+    record { height_nonzero = (plan_passed i k.planned.passed).0.some_height; entries_bound = asked.0; head_le_max_file = omega (arith, stream_small i a.layout a.sizes a.rle a.len k); head_length = asked.1; head_in_bounds = omega (arith, c.requires.len_in_bounds) }
 
 pub overflow_add-at : goal.overflow_add-at
 overflow_add-at c = record { fits = omega (arith, c.requires.len_in_bounds, c.well_formed.1.1.1.1.1.1.1.1.0) }
@@ -50,4 +50,4 @@ returns c =
     let k = c.requires.streamed in
     let head = sizes_head i a.sizes k.planned.sizes_are in
     let w = c.write_head in
-    let t = c.rle_into in record { value = stream-answer i a.layout a.sizes a.rle a.len k c.format.result c.format.ensures; buf_after = stream_written i a.layout a.sizes a.rle a.len k a.buf.now w.new.buf t.new.buf a.at c.compression.result c.compression.ensures c.requires.len_in_bounds w.ensures t.ensures.value.1; starts_after = stream-noted i a.layout a.sizes a.rle a.len k a.at a.starts.now t.new.starts t.ensures.starts_after }
+    let t = c.rle_into in record { answer = stream-answer i a.layout a.sizes a.rle a.len k c.format.result c.format.ensures; buf_after = stream_written i a.layout a.sizes a.rle a.len k a.buf.now w.new.buf t.new.buf a.at c.compression.result c.compression.ensures c.requires.len_in_bounds w.ensures t.ensures.answer.1; starts_after = stream-noted i a.layout a.sizes a.rle a.len k a.at a.starts.now t.new.starts t.ensures.starts_after }

@@ -12,7 +12,7 @@ plan_for-plan-requires c =
     let i = called a.src a.options a.plane.now a.palette.now a.icc.now a.linked_icc.now in
     let m = c.mode_of-mode in
     let tail = ap length (c.tail-profile.ensures ∙ ap (λ (x : Mode). tail_in x a.src.has_linked_icc a.icc.now a.linked_icc.now) m.ensures) in
-    record { mode_value = m.ensures; profile_bytes_value = stream_alone i (length c.tail-profile.result.now) tail }
+    record { mode_chosen = m.ensures; stream_unprofiled = stream_alone i (length c.tail-profile.result.now) tail }
 
 pub returns-in-Ready : goal.returns-in-Ready
 returns-in-Ready c =

@@ -14,7 +14,7 @@ pub layout_of-layout-requires : goal.layout_of-layout-requires
 layout_of-layout-requires c =
     let a = c.args in
     let passed = sym c.checks-check.ensures ∙ c.in_default.is in
-    record { mode_value = c.requires.mode_value; k_value = λ q. ((checks_passed a.src a.options a.plane_bytes a.palette_bytes passed).masks q).runs }
+    record { mode_chosen = c.requires.mode_chosen; masks_checked = λ q. ((checks_passed a.src a.options a.plane_bytes a.palette_bytes passed).masks q).runs }
 
 pub head_len-head-requires : goal.head_len-head-requires
 head_len-head-requires c = c.layout_of-layout.ensures
@@ -31,7 +31,7 @@ sizes_for-requires c =
     let a = c.args in
     let passed = sym c.checks-check.ensures ∙ c.in_default.is in
     let k = checks_passed a.src a.options a.plane_bytes a.palette_bytes passed in
-    let l = c.layout_of-layout in record { limit_le_max_file = k.limited; head_bound = c.head_len-head.ensures.1; raw_bound = omega (arith, raw_is a.src a.options a.palette_bytes c.row_stride.result l.result l.ensures c.row_stride.ensures, raw_fits a.src a.options a.plane_bytes k); profile_bytes_value = λ q. c.requires.profile_bytes_value (sym (stream_planned a.src a.options a.palette_bytes l.result l.ensures) ∙ q) }
+    let l = c.layout_of-layout in record { limit_le_max_file = k.limited; head_bound = c.head_len-head.ensures.1; raw_bound = omega (arith, raw_is a.src a.options a.palette_bytes c.row_stride.result l.result l.ensures c.row_stride.ensures, raw_fits a.src a.options a.plane_bytes k); stream_unprofiled = λ q. c.requires.stream_unprofiled (sym (stream_planned a.src a.options a.palette_bytes l.result l.ensures) ∙ q) }
 
 pub returns : goal.returns
 returns c =

@@ -18,7 +18,7 @@ returns-then-is_stream c =
     let a = c.args in
     let stream = sym c.is_stream.ensures ∙ c.if-is_stream.true in
     let least : c.if-file_fits.fallback ≡ cond c.fits-file_fits.result a.raw 0 = elim (c.if-file_fits.branch) [ then-file_fits w ↦ rw w.if-file_fits.true w.fallback-is | else-file_fits w ↦ rw w.if-file_fits.false w.fallback-is ] in
-    stream_plan a.limit a.head a.raw a.profile_bytes a.width c.budget-rle_budget.result (a.head + c.larger.result) a.layout c.fits-file_fits.result stream (c.requires.profile_bytes_value stream)
+    stream_plan a.limit a.head a.raw a.profile_bytes a.width c.budget-rle_budget.result (a.head + c.larger.result) a.layout c.fits-file_fits.result stream (c.requires.stream_unprofiled stream)
     c.fits-file_fits.ensures c.budget-rle_budget.ensures (ap (λ (n : ℕ). a.head + n) (c.larger.ensures ∙ ap (max (c.budget-rle_budget.result + 2 * a.width + 2)) least))
 
 pub overflow_add-file : goal.overflow_add-file

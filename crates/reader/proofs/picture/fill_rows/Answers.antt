@@ -28,7 +28,7 @@ pub overflow_add-t : goal.overflow_add-t
 overflow_add-t c = let a = c.args in let t = fields_in a.t in let l = c.loop-y in omega (arith, part_inside a.t.offset c.shown_height-height.result c.stored_at-stored.result c.row_stride-stride.result (shown_height t) (row_stride a.t.width a.t.depth) (length a.file.now) c.shown_height-height.ensures c.row_stride-stride.ensures c.requires.depth_in_bounds c.stored_at-stored.ensures.1)
 
 pub put_row-requires : goal.put_row-requires
-put_row-requires c = let a = c.args in let t = fields_in a.t in let l = c.loop-y in record { written_kind = c.requires.written_kind; channels_value = c.channels_of-channels.ensures.0; channels_ok = c.channels_of-channels.ensures.1; depth_in_bounds = rw (← c.row_stride-stride.ensures) (part_inside a.t.offset c.shown_height-height.result c.stored_at-stored.result c.row_stride-stride.result (shown_height t) (row_stride a.t.width a.t.depth) (length a.file.now) c.shown_height-height.ensures c.row_stride-stride.ensures c.requires.depth_in_bounds c.stored_at-stored.ensures.1); t_in_bounds = rw (← c.numbers_each.ensures) (omega (arith, l.invariant.1, l.invariant.2.long, part_inside 0 c.shown_height-height.result l.y (a.t.width * c.numbers_each.result) (shown_height t) (a.t.width * numbers_each t) (length a.cells.now) c.shown_height-height.ensures (ap (λ (n : ℕ). a.t.width * n) c.numbers_each.ensures) (omega (arith, c.requires.t_in_bounds)) c.loop-y-test.true)) }
+put_row-requires c = let a = c.args in let t = fields_in a.t in let l = c.loop-y in record { written_kind = c.requires.written_kind; channels_read = c.channels_of-channels.ensures.0; channels_ok = c.channels_of-channels.ensures.1; depth_in_bounds = rw (← c.row_stride-stride.ensures) (part_inside a.t.offset c.shown_height-height.result c.stored_at-stored.result c.row_stride-stride.result (shown_height t) (row_stride a.t.width a.t.depth) (length a.file.now) c.shown_height-height.ensures c.row_stride-stride.ensures c.requires.depth_in_bounds c.stored_at-stored.ensures.1); t_in_bounds = rw (← c.numbers_each.ensures) (omega (arith, l.invariant.1, l.invariant.2.long, part_inside 0 c.shown_height-height.result l.y (a.t.width * c.numbers_each.result) (shown_height t) (a.t.width * numbers_each t) (length a.cells.now) c.shown_height-height.ensures (ap (λ (n : ℕ). a.t.width * n) c.numbers_each.ensures) (omega (arith, c.requires.t_in_bounds)) c.loop-y-test.true)) }
 
 pub overflow_add-to : goal.overflow_add-to
 overflow_add-to c = let a = c.args in let t = fields_in a.t in let l = c.loop-y in omega (arith, l.invariant.1, few_numbers a.t.width c.numbers_each.result (leb a.t.depth 8) c.struct_known-1.given.1.1.0.fits c.numbers_each.ensures, part_inside 0 c.shown_height-height.result l.y (a.t.width * c.numbers_each.result) (shown_height t) (a.t.width * numbers_each t) (length a.cells.now) c.shown_height-height.ensures (ap (λ (n : ℕ). a.t.width * n) c.numbers_each.ensures) (omega (arith, c.requires.t_in_bounds)) c.loop-y-test.true, c.well_formed)

@@ -9,10 +9,10 @@ use native.Mathlib.Omega.{arith}
 use Rattle.reader.proofs.read.fails.Goals as goal
 
 pub returns-then-not-is_coded : goal.returns-then-not-is_coded
-returns-then-not-is_coded c = let a = c.args in let t = fields_in a.t in fails_never a.file.now t c.requires.t_value (sym c.is_coded.ensures ∙ not-true _ c.if-not-is_coded.true-raw)
+returns-then-not-is_coded c = let a = c.args in let t = fields_in a.t in fails_never a.file.now t c.requires.fields_read (sym c.is_coded.ensures ∙ not-true _ c.if-not-is_coded.true-raw)
 
 pub stream_fails-requires : goal.stream_fails-requires
-stream_fails-requires c = let a = c.args in let t = fields_in a.t in let o = (opened a.file.now t c.requires.t_value (subst (λ (f : Fields). f.height < 4294967296) (sym c.requires.t_value) (height_small a.file.now (λ k. (c.shared_slice_known-1.given k).fits))) c.requires.file_value c.requires.file_value_2) in let k = coded_kind t o.head.sound (sym c.is_coded.ensures ∙ not-false _ c.if-not-is_coded.false-raw) in record { offset_bound = omega arith; depth_bound = k.1; width_bound = omega (arith, o.head.sound.wide); height_nonzero = rw c.shown_height.ensures o.head.sound.some_height }
+stream_fails-requires c = let a = c.args in let t = fields_in a.t in let o = (opened a.file.now t c.requires.fields_read (subst (λ (f : Fields). f.height < 4294967296) (sym c.requires.fields_read) (height_small a.file.now (λ k. (c.shared_slice_known-1.given k).fits))) c.requires.not_17 c.requires.not_18) in let k = coded_kind t o.head.sound (sym c.is_coded.ensures ∙ not-false _ c.if-not-is_coded.false-raw) in record { offset_bound = omega arith; depth_bound = k.1; width_bound = omega (arith, o.head.sound.wide); height_nonzero = rw c.shown_height.ensures o.head.sound.some_height }
 
 pub returns : goal.returns
-returns c = let a = c.args in let t = fields_in a.t in c.stream_fails.ensures ∙ rw c.shown_height.ensures (fails_coded a.file.now t c.requires.t_value (sym c.is_coded.ensures ∙ not-false _ c.if-not-is_coded.false-raw))
+returns c = let a = c.args in let t = fields_in a.t in c.stream_fails.ensures ∙ rw c.shown_height.ensures (fails_coded a.file.now t c.requires.fields_read (sym c.is_coded.ensures ∙ not-false _ c.if-not-is_coded.false-raw))

@@ -12,13 +12,13 @@ use native.Mathlib.Omega.{arith}
 use Rattle.reader.proofs.read.fill_cells.Goals as goal
 
 pub fill_stream-requires : goal.fill_stream-requires
-fill_stream-requires c = let a = c.args in let t = fields_in a.t in let o = (opened a.file.now t c.requires.t_value (subst (λ (f : Fields). f.height < 4294967296) (sym c.requires.t_value) (height_small a.file.now (λ k. (c.shared_slice_known-1.given k).fits))) c.requires.file_value c.requires.file_value_2) in let k = coded_kind t o.head.sound (sym c.is_coded.ensures ∙ c.if-is_coded.true) in record { offset_bound = omega arith; fact = k.0; width_bound = omega (arith, o.head.sound.wide); height_nonzero = rw c.shown_height.ensures o.head.sound.some_height; height_value = rw c.shown_height.ensures (fails_coded a.file.now t c.requires.t_value (sym c.is_coded.ensures ∙ c.if-is_coded.true) ∙ c.requires.file_value_3); width_in_bounds = rw c.shown_height.ensures (cells_room t (length a.cells.now) k.1 c.requires.t_in_bounds) }
+fill_stream-requires c = let a = c.args in let t = fields_in a.t in let o = (opened a.file.now t c.requires.fields_read (subst (λ (f : Fields). f.height < 4294967296) (sym c.requires.fields_read) (height_small a.file.now (λ k. (c.shared_slice_known-1.given k).fits))) c.requires.not_17 c.requires.not_18) in let k = coded_kind t o.head.sound (sym c.is_coded.ensures ∙ c.if-is_coded.true) in record { offset_bound = omega arith; known_depth = k.0; width_bound = omega (arith, o.head.sound.wide); height_nonzero = rw c.shown_height.ensures o.head.sound.some_height; not_refused = rw c.shown_height.ensures (fails_coded a.file.now t c.requires.fields_read (sym c.is_coded.ensures ∙ c.if-is_coded.true) ∙ c.requires.not_19); width_in_bounds = rw c.shown_height.ensures (cells_room t (length a.cells.now) k.1 c.requires.t_in_bounds) }
 
 pub returns-then-is_coded : goal.returns-then-is_coded
-returns-then-is_coded c = let a = c.args in let t = fields_in a.t in let o = (opened a.file.now t c.requires.t_value (subst (λ (f : Fields). f.height < 4294967296) (sym c.requires.t_value) (height_small a.file.now (λ k. (c.shared_slice_known-1.given k).fits))) c.requires.file_value c.requires.file_value_2) in c.fill_stream.ensures ∙ ap (put a.cells.now 0) (stream-filled a.file.now t o c.shown_height.result c.shown_height.ensures (sym c.is_coded.ensures ∙ c.if-is_coded.true) c.requires.file_value_3)
+returns-then-is_coded c = let a = c.args in let t = fields_in a.t in let o = (opened a.file.now t c.requires.fields_read (subst (λ (f : Fields). f.height < 4294967296) (sym c.requires.fields_read) (height_small a.file.now (λ k. (c.shared_slice_known-1.given k).fits))) c.requires.not_17 c.requires.not_18) in c.fill_stream.ensures ∙ ap (put a.cells.now 0) (stream-filled a.file.now t o c.shown_height.result c.shown_height.ensures (sym c.is_coded.ensures ∙ c.if-is_coded.true) c.requires.not_19)
 
 pub fill_rows-requires : goal.fill_rows-requires
-fill_rows-requires c = let a = c.args in let t = fields_in a.t in let o = (opened a.file.now t c.requires.t_value (subst (λ (f : Fields). f.height < 4294967296) (sym c.requires.t_value) (height_small a.file.now (λ k. (c.shared_slice_known-1.given k).fits))) c.requires.file_value c.requires.file_value_2) in record { written_kind = plain_kind t o.head.sound (sym c.is_coded.ensures ∙ c.if-is_coded.false); depth_in_bounds = rows_room t (length a.file.now) (o.rows (sym c.is_coded.ensures ∙ c.if-is_coded.false)); t_in_bounds = cells_each t (length a.cells.now) c.requires.t_in_bounds }
+fill_rows-requires c = let a = c.args in let t = fields_in a.t in let o = (opened a.file.now t c.requires.fields_read (subst (λ (f : Fields). f.height < 4294967296) (sym c.requires.fields_read) (height_small a.file.now (λ k. (c.shared_slice_known-1.given k).fits))) c.requires.not_17 c.requires.not_18) in record { written_kind = plain_kind t o.head.sound (sym c.is_coded.ensures ∙ c.if-is_coded.false); depth_in_bounds = rows_room t (length a.file.now) (o.rows (sym c.is_coded.ensures ∙ c.if-is_coded.false)); t_in_bounds = cells_each t (length a.cells.now) c.requires.t_in_bounds }
 
 pub returns : goal.returns
-returns c = let a = c.args in let t = fields_in a.t in let o = (opened a.file.now t c.requires.t_value (subst (λ (f : Fields). f.height < 4294967296) (sym c.requires.t_value) (height_small a.file.now (λ k. (c.shared_slice_known-1.given k).fits))) c.requires.file_value c.requires.file_value_2) in c.fill_rows.ensures ∙ ap (put a.cells.now 0) (rows_filled a.file.now t o (sym c.is_coded.ensures ∙ c.if-is_coded.false))
+returns c = let a = c.args in let t = fields_in a.t in let o = (opened a.file.now t c.requires.fields_read (subst (λ (f : Fields). f.height < 4294967296) (sym c.requires.fields_read) (height_small a.file.now (λ k. (c.shared_slice_known-1.given k).fits))) c.requires.not_17 c.requires.not_18) in c.fill_rows.ensures ∙ ap (put a.cells.now 0) (rows_filled a.file.now t o (sym c.is_coded.ensures ∙ c.if-is_coded.false))

@@ -21,7 +21,7 @@ pub returns-then-head-head_bytes : goal.returns-then-head-head_bytes
 returns-then-head-head_bytes c = let a = c.args in let f = a.file.now in let o = (sizes_open f c.sizes_of-sizes.result c.sizes_of-sizes.ensures c.if-sizes-ne0.false) in read_refused f a.head.now a.table.now a.cells.now 15 _ (number_short f (length a.head.now) (length a.table.now) (length a.cells.now) o.never o.outside (ap (λ (k : ReadingSizes). ltb (length a.head.now) k.head_bytes || ltb (length a.table.now) k.table_bytes || ltb (length a.cells.now) k.cell_numbers) (sym o.sizes) ∙ c.if-head-head_bytes.true)) (λ z. omega arith) c.refused-then-head-head_bytes.ensures
 
 pub fails-requires : goal.fails-requires
-fails-requires c = let a = c.args in let f = a.file.now in let o = (sizes_open f c.sizes_of-sizes.result c.sizes_of-sizes.ensures c.if-sizes-ne0.false) in record { t_value = c.fields_of-t.ensures; file_value = o.never; file_value_2 = o.outside }
+fails-requires c = let a = c.args in let f = a.file.now in let o = (sizes_open f c.sizes_of-sizes.result c.sizes_of-sizes.ensures c.if-sizes-ne0.false) in record { fields_read = c.fields_of-t.ensures; not_17 = o.never; not_18 = o.outside }
 
 pub returns-then-fails : goal.returns-then-fails
 returns-then-fails c = let a = c.args in let f = a.file.now in let o = (sizes_open f c.sizes_of-sizes.result c.sizes_of-sizes.ensures c.if-sizes-ne0.false) in read_refused f a.head.now a.table.now a.cells.now 19 _ (number_fails f (length a.head.now) (length a.table.now) (length a.cells.now) o.never o.outside (ap (λ (k : ReadingSizes). ltb (length a.head.now) k.head_bytes || ltb (length a.table.now) k.table_bytes || ltb (length a.cells.now) k.cell_numbers) (sym o.sizes) ∙ c.if-head-head_bytes.false) (sym c.fails.ensures ∙ c.if-fails.true)) (λ z. omega arith) c.refused-then-fails.ensures
@@ -45,7 +45,7 @@ pub put_slice-requires-2 : goal.put_slice-requires-2
 put_slice-requires-2 c = let a = c.args in let f = a.file.now in let o = (sizes_open f c.sizes_of-sizes.result c.sizes_of-sizes.ensures c.if-sizes-ne0.false) in part_fits (c.sizes_of-sizes.result.head_bytes + c.sizes_of-sizes.result.table_bytes - c.sizes_of-sizes.result.head_bytes) c.sizes_of-sizes.result.head_bytes (length a.table.now) f (omega (arith, (long_enough (length a.head.now) (length a.table.now) (length a.cells.now) c.sizes_of-sizes.result c.if-head-head_bytes.false).1))
 
 pub fill_cells-requires : goal.fill_cells-requires
-fill_cells-requires c = let a = c.args in let f = a.file.now in let o = (sizes_open f c.sizes_of-sizes.result c.sizes_of-sizes.ensures c.if-sizes-ne0.false) in record { t_value = c.fields_of-t.ensures; file_value = o.never; file_value_2 = o.outside; file_value_3 = sym c.fails.ensures ∙ c.if-fails.false; t_in_bounds = cells_fit f (fields_in c.fields_of-t.result) c.sizes_of-sizes.result (length a.cells.now) c.fields_of-t.ensures o.sizes (long_enough (length a.head.now) (length a.table.now) (length a.cells.now) c.sizes_of-sizes.result c.if-head-head_bytes.false).2 }
+fill_cells-requires c = let a = c.args in let f = a.file.now in let o = (sizes_open f c.sizes_of-sizes.result c.sizes_of-sizes.ensures c.if-sizes-ne0.false) in record { fields_read = c.fields_of-t.ensures; not_17 = o.never; not_18 = o.outside; not_19 = sym c.fails.ensures ∙ c.if-fails.false; t_in_bounds = cells_fit f (fields_in c.fields_of-t.result) c.sizes_of-sizes.result (length a.cells.now) c.fields_of-t.ensures o.sizes (long_enough (length a.head.now) (length a.table.now) (length a.cells.now) c.sizes_of-sizes.result c.if-head-head_bytes.false).2 }
 
 pub profile_bytes-profile-requires : goal.profile_bytes-profile-requires
 profile_bytes-profile-requires c = c.fields_of-t.ensures

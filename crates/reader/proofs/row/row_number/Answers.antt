@@ -25,7 +25,7 @@ pub returns-then-cells-t : goal.returns-then-cells-t
 returns-then-cells-t c = let a = c.args in let f = a.file.now in let t = fields_in a.t in row_short f t c.requires a.start a.cells (sym c.never_written.ensures ∙ c.if-never_written.false) (outside_either (length f) t a.start _ _ c.head_outside.ensures c.row_outside.ensures c.if-head_outside-row_outside.false) (too_many t a.cells _ c.numbers_each.ensures (lt-ltb a.cells _ c.if-cells-t.true))
 
 pub row_fails-requires : goal.row_fails-requires
-row_fails-requires c = let a = c.args in let f = a.file.now in let t = fields_in a.t in record { t_value = c.requires; file_value = (sym c.never_written.ensures ∙ c.if-never_written.false); t_value_2 = sym c.head_outside.ensures ∙ (or_false _ _ c.if-head_outside-row_outside.false).0 }
+row_fails-requires c = let a = c.args in let f = a.file.now in let t = fields_in a.t in record { fields_read = c.requires; not_17 = (sym c.never_written.ensures ∙ c.if-never_written.false); head_inside = sym c.head_outside.ensures ∙ (or_false _ _ c.if-head_outside-row_outside.false).0 }
 
 pub returns-then-row_fails : goal.returns-then-row_fails
 returns-then-row_fails c = let a = c.args in let f = a.file.now in let t = fields_in a.t in row_stops f t c.requires a.start a.cells (sym c.never_written.ensures ∙ c.if-never_written.false) (outside_either (length f) t a.start _ _ c.head_outside.ensures c.row_outside.ensures c.if-head_outside-row_outside.false) (too_many t a.cells _ c.numbers_each.ensures (le-ltb a.cells _ c.if-cells-t.false)) (sym c.row_fails.ensures ∙ c.if-row_fails.true)

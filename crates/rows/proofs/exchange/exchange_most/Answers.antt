@@ -16,7 +16,7 @@ pub loop-x-init : goal.loop-x-init
 loop-x-init c = (omega arith, omega arith, refl, λ d room e. e)
 
 pub exchange_sixteen-requires : goal.exchange_sixteen-requires
-exchange_sixteen-requires c = record { i_value = omega arith; le_i = omega arith; i_in_bounds = omega arith; at_in_bounds = omega arith }
+exchange_sixteen-requires c = record { cell_start = omega arith; le_i = omega arith; i_in_bounds = omega arith; at_in_bounds = omega arith }
 
 pub loop-x-preserved : goal.loop-x-preserved
 loop-x-preserved c =

@@ -16,7 +16,7 @@ loop-j-preserved c =
     let a = c.args in (
       omega arith,
       simp length-set l.invariant.1,
-      fill l.bytes (byte a.src.now a.i) l.j c.exchanged_byte.result (omega arith) l.invariant.2 (byte_at a.src.now a.i l.j c.exchanged_byte.result c.requires.i_value c.exchanged_byte.ensures),
+      fill l.bytes (byte a.src.now a.i) l.j c.exchanged_byte.result (omega arith) l.invariant.2 (byte_at a.src.now a.i l.j c.exchanged_byte.result c.requires.cell_start c.exchanged_byte.ensures),
     )
 
 pub slice_bounds-put_each-end : goal.slice_bounds-put_each-end

@@ -30,7 +30,7 @@ pub returns-then-bpp-eq1 : goal.returns-then-bpp-eq1
 returns-then-bpp-eq1 c = at-depth _ 1 _ _ _ _ _ c.if-bpp-eq1.true c.pack_folded-then-bpp-eq1.ensures
 
 pub pack_tail-requires : goal.pack_tail-requires
-pack_tail-requires c = record { bpp_value = c.requires.bpp_value; n_bound = omega arith; n_in_bounds = omega arith }
+pack_tail-requires c = record { table_depth = c.requires.table_depth; n_bound = omega arith; n_in_bounds = omega arith }
 
 pub returns : goal.returns
 returns c = from_first _ _ _ _ c.pack_tail.ensures

@@ -69,7 +69,7 @@ loop-i-preserved c =
 
 pub pack_tail-requires : goal.pack_tail-requires
 pack_tail-requires c =
-    record { bpp_value = folded_table c.args.bpp c.requires.folded_depth; n_bound = omega arith; n_in_bounds = omega arith }
+    record { table_depth = folded_table c.args.bpp c.requires.folded_depth; n_bound = omega arith; n_in_bounds = omega arith }
 
 pub returns : goal.returns
 unfolding packed

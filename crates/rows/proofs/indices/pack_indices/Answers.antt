@@ -32,7 +32,7 @@ returns-then-bpp-eq8 c =
 pub pack_bytes-requires : goal.pack_bytes-requires
 pack_bytes-requires c =
     let a = c.args in
-    record { bpp_value = c.requires.bpp_value; n_bound = omega (arith, stride-small (length a.src.now) a.bpp (omega arith) (depth a.bpp c.requires.bpp_value).small); n_in_bounds = omega arith }
+    record { table_depth = c.requires.table_depth; n_bound = omega (arith, stride-small (length a.src.now) a.bpp (omega arith) (depth a.bpp c.requires.table_depth).small); n_in_bounds = omega arith }
 
 pub returns : goal.returns
 returns c =

@@ -33,7 +33,7 @@ loop-i-preserved c =
     )
 
 pub pack_tail-requires : goal.pack_tail-requires
-pack_tail-requires c = record { bpp_value = refl; n_bound = omega arith; n_in_bounds = omega arith }
+pack_tail-requires c = record { table_depth = refl; n_bound = omega arith; n_in_bounds = omega arith }
 
 pub returns : goal.returns
 unfolding packed

@@ -9,7 +9,7 @@ pub loop-i-init : goal.loop-i-init
 loop-i-init c = (refl, refl)
 
 pub packed_byte-requires : goal.packed_byte-requires
-packed_byte-requires c = record { bpp_value = c.requires.bpp_value; i_bound = omega arith }
+packed_byte-requires c = record { table_depth = c.requires.table_depth; i_bound = omega arith }
 
 pub loop-i-preserved : goal.loop-i-preserved
 unfolding packed

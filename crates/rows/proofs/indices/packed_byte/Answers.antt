@@ -28,26 +28,26 @@ place {d} q i h =
     omega arith
 
 pub nonzero_div-per : goal.nonzero_div-per
-nonzero_div-per c = (depth c.args.bpp c.requires.bpp_value).some
+nonzero_div-per c = (depth c.args.bpp c.requires.table_depth).some
 
 pub overflow_mul-i : goal.overflow_mul-i
-overflow_mul-i c = omega (arith, place (depth c.args.bpp c.requires.bpp_value) c.args.i c.requires.i_bound)
+overflow_mul-i c = omega (arith, place (depth c.args.bpp c.requires.table_depth) c.args.i c.requires.i_bound)
 
 pub returns-then-i-per : goal.returns-then-i-per
 returns-then-i-per c = let a = c.args in sym (byte_none a.bpp a.i a.src.now c.if-i-per.true)
 
 pub overflow_shl-base : goal.overflow_shl-base
-overflow_shl-base c = omega (arith, (depth c.args.bpp c.requires.bpp_value).small)
+overflow_shl-base c = omega (arith, (depth c.args.bpp c.requires.table_depth).small)
 
 pub loop-j-init : goal.loop-j-init
 unfolding digits
 loop-j-init c = (omega arith, refl)
 
 pub overflow_mul-x : goal.overflow_mul-x
-overflow_mul-x c = omega (arith, place (depth c.args.bpp c.requires.bpp_value) c.args.i c.requires.i_bound)
+overflow_mul-x c = omega (arith, place (depth c.args.bpp c.requires.table_depth) c.args.i c.requires.i_bound)
 
 pub overflow_add-x : goal.overflow_add-x
-overflow_add-x c = let q = depth c.args.bpp c.requires.bpp_value in
+overflow_add-x c = let q = depth c.args.bpp c.requires.table_depth in
     omega (arith, place q c.args.i c.requires.i_bound, q.few)
 
 pub overflow_cast-index : goal.overflow_cast-index
@@ -57,29 +57,29 @@ pub overflow_mul-byte : goal.overflow_mul-byte
 overflow_mul-byte c =
     let a = c.args in
     let l = c.loop-j in
-    let q = depth a.bpp c.requires.bpp_value in
+    let q = depth a.bpp c.requires.table_depth in
     let e : c.if-x-src.index ≡ cell a.src.now a.bpp a.i l.j = elim (c.if-x-src.branch) [ then-x-src w ↦ w.index-is | else-x-src w ↦ w.index-is ∙ sym (get_or-eq_default a.src.now 0 w.if-x-src.false) ] in
     omega (arith, fits q a.src.now a.i l.j l.byte c.if-x-src.index c.loop-j-test.true l.invariant.1 e)
 
 pub nonzero_rem-byte : goal.nonzero_rem-byte
-nonzero_rem-byte c = rw (base-is (depth c.args.bpp c.requires.bpp_value)) (pow_pos c.args.bpp)
+nonzero_rem-byte c = rw (base-is (depth c.args.bpp c.requires.table_depth)) (pow_pos c.args.bpp)
 
 pub overflow_add-byte : goal.overflow_add-byte
 overflow_add-byte c =
     let a = c.args in
     let l = c.loop-j in
-    let q = depth a.bpp c.requires.bpp_value in
+    let q = depth a.bpp c.requires.table_depth in
     let e : c.if-x-src.index ≡ cell a.src.now a.bpp a.i l.j = elim (c.if-x-src.branch) [ then-x-src w ↦ w.index-is | else-x-src w ↦ w.index-is ∙ sym (get_or-eq_default a.src.now 0 w.if-x-src.false) ] in
     omega (arith, fits q a.src.now a.i l.j l.byte c.if-x-src.index c.loop-j-test.true l.invariant.1 e)
 
 pub overflow_add-j : goal.overflow_add-j
-overflow_add-j c = omega (arith, (depth c.args.bpp c.requires.bpp_value).few)
+overflow_add-j c = omega (arith, (depth c.args.bpp c.requires.table_depth).few)
 
 pub loop-j-preserved : goal.loop-j-preserved
 loop-j-preserved c =
     let a = c.args in
     let l = c.loop-j in
-    let q = depth a.bpp c.requires.bpp_value in
+    let q = depth a.bpp c.requires.table_depth in
     let e : c.if-x-src.index ≡ cell a.src.now a.bpp a.i l.j = elim (c.if-x-src.branch) [ then-x-src w ↦ w.index-is | else-x-src w ↦ w.index-is ∙ sym (get_or-eq_default a.src.now 0 w.if-x-src.false) ] in
     (omega arith, turn q a.src.now a.i l.j l.byte c.if-x-src.index l.invariant.1 e)
 
@@ -87,7 +87,7 @@ pub overflow_cast-result : goal.overflow_cast-result
 overflow_cast-result c =
     let a = c.args in
     let l = c.loop-j in
-    omega (arith, digits_byte (depth a.bpp c.requires.bpp_value) (cell a.src.now a.bpp a.i) l.j l.invariant.0)
+    omega (arith, digits_byte (depth a.bpp c.requires.table_depth) (cell a.src.now a.bpp a.i) l.j l.invariant.0)
 
 pub returns : goal.returns
 unfolding packed_byte_of

@@ -10,7 +10,7 @@ returns-then-bpp-eq16 c =
 
 pub put_u32-requires : goal.put_u32-requires
 put_u32-requires c =
-    omega (arith, four_bytes c.args.bpp c.requires.fact c.if-bpp-eq16.false)
+    omega (arith, four_bytes c.args.bpp c.requires.known_depth c.if-bpp-eq16.false)
 
 pub returns : goal.returns
 returns c =

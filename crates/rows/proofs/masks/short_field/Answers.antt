@@ -5,4 +5,4 @@ use Rattle.rows.proofs.masks.short_field.Goals as goal
 pub returns : goal.returns
 returns c =
     let a = c.args in
-    field_is a.channel a.sample _ (narrow a.channel.len a.sample c.requires.len_bound) c.requires.sample_bound c.requires.len_bound_2
+    field_is a.channel a.sample _ (narrow a.channel.len a.sample c.requires.len_bound) c.requires.sample_bound c.requires.channel_in_word

@@ -20,7 +20,7 @@ room : (c : In-loop-y) → c.loop-y.o + c.args.stored ≤ length c.loop-y.dst
 room c =
     let a = c.args in
     let l = c.loop-y in
-    row_room (copy_at a.stored a.bytes a.height a.top_down a.plane.now a.stride) a.stored a.at a.origin a.height a.dst.now a.starts.now l.dst l.starts l.o l.y l.invariant c.loop-y-test.true c.requires.height_in_bounds_2
+    row_room (copy_at a.stored a.bytes a.height a.top_down a.plane.now a.stride) a.stored a.at a.origin a.height a.dst.now a.starts.now l.dst l.starts l.o l.y l.invariant c.loop-y-test.true c.requires.dst_in_bounds
 
 pub loop-y-init : goal.loop-y-init
 loop-y-init c =
@@ -49,7 +49,7 @@ loop-y-preserved c =
     let n = c.note_start in
     let p = c.copy_row in
     rows_turn (copy_at a.stored a.bytes a.height a.top_down a.plane.now a.stride) a.stored a.at a.origin a.height a.dst.now a.starts.now l.dst l.starts l.o l.y l.invariant
-    p.new.dst n.new.starts _ (λ k. length_copy_at a.stored a.bytes a.height a.top_down a.plane.now a.stride k c.requires.bytes_le_stored) c.requires.origin_le_at c.loop-y-test.true c.requires.height_in_bounds_2
+    p.new.dst n.new.starts _ (λ k. length_copy_at a.stored a.bytes a.height a.top_down a.plane.now a.stride k c.requires.bytes_le_stored) c.requires.origin_le_at c.loop-y-test.true c.requires.dst_in_bounds
     (p.ensures ∙ ap (λ (r : List ℕ). put l.dst l.o (padded a.stored r)) (source_is a.plane.now a.stride a.bytes a.bytes c.if-top_down.from a.height l.y a.top_down refl (source (goal.at.loop-y-preserved c).Joined-top_down)))
     n.ensures refl
 

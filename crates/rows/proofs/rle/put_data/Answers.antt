@@ -41,7 +41,7 @@ set-kept : (b e : List ℕ) (o v m : ℕ) → length b ≡ m → e ≡ set b o v
 set-kept b e o v m h is = ap length is ∙ length-set b o v ∙ h
 
 pub pack_bytes-requires : goal.pack_bytes-requires
-pack_bytes-requires c = record { bpp_value = refl; n_bound = omega arith; n_in_bounds = omega arith }
+pack_bytes-requires c = record { table_depth = refl; n_bound = omega arith; n_in_bounds = omega arith }
 
 pub returns-then-four : goal.returns-then-four
 returns-then-four c =

@@ -73,7 +73,7 @@ returns c =
     let l = c.loop-y in
     let four = c.is_rle4-four in
     let done = le_antisymm l.invariant.0 c.loop-y-test.false in record {
-      value = whole four.result (is_rle4 a.rle) a.width a.height a.plane.now a.stride l.y a.at l.o a.buf.now l.buf four.ensures done l.invariant.1 l.invariant.3;
+      answer = whole four.result (is_rle4 a.rle) a.width a.height a.plane.now a.stride l.y a.at l.o a.buf.now l.buf four.ensures done l.invariant.1 l.invariant.3;
       starts_after = noted_end (λ s. a.at - a.origin + stream_start (depth_of four.result) a.width a.height a.plane.now a.stride s) a.starts.now l.starts l.y a.height done l.invariant.5
           ∙ ap (λ (b : Bool). noted (λ s. a.at - a.origin + stream_start (depth_of b) a.width a.height a.plane.now a.stride s) a.starts.now a.height) four.ensures;
     }

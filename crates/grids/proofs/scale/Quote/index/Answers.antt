@@ -33,4 +33,4 @@ returns-else-next-self c =
     let a = c.args in
     let v = c.requires in
     let s = c.shade-low in
-    index_shade a.full a.ends.now a.blocks.now v.levels a.self s.result s.ensures v.self_value c.if-next-self.false
+    index_shade a.full a.ends.now a.blocks.now v.levels a.self s.result s.ensures v.one_quote c.if-next-self.false

@@ -12,7 +12,7 @@ loop-x-init c =
 pub word-word-requires : goal.word-word-requires
 word-word-requires c =
     let n = c.args.in_bpp in
-    record { fact = c.requires.fact; in_bpp_in_bounds = omega (arith, suc-mul c.loop-x.x n, mul-le-mul_right n c.loop-x-test.true); fields_value = c.requires.fields_value }
+    record { known_size = c.requires.known_size; in_bpp_in_bounds = omega (arith, suc-mul c.loop-x.x n, mul-le-mul_right n c.loop-x-test.true); fields_made = c.requires.fields_made }
 
 pub overflow_mul-x : goal.overflow_mul-x
 overflow_mul-x c =
@@ -30,7 +30,7 @@ pub put_cell-requires : goal.put_cell-requires
 put_cell-requires c =
     let x = c.loop-x.x in
     let fits = next_fits c.args.at x c.args.width (c.args.self.bpp / 8) _ refl c.loop-x-test.true in
-    record { fact = c.requires.layout_ok.depth; bpp_in_bounds = omega arith }
+    record { known_depth = c.requires.layout_ok.depth; bpp_in_bounds = omega arith }
 
 pub loop-x-preserved : goal.loop-x-preserved
 loop-x-preserved c =

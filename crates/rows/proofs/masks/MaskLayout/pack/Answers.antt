@@ -17,7 +17,7 @@ short_cells-requires c =
 pub long_cells-requires : goal.long_cells-requires
 long_cells-requires c =
     let a = c.args in
-    let o = c.ordered-layout in record { layout_ok = layout_ordered a.self o.result a.bgr o.ensures c.requires.layout_ok; fact = c.requires.fact; src_len = c.requires.src_len; bpp_in_bounds = room_ordered a.self o.result a.bgr o.ensures c.requires.layout_ok a.width a.at (length a.dst.now) c.requires.bpp_in_bounds; fields_value = c.requires.fields_value ∙ sym (fields_ordered a.self o.result a.bgr o.ensures) }
+    let o = c.ordered-layout in record { layout_ok = layout_ordered a.self o.result a.bgr o.ensures c.requires.layout_ok; known_size = c.requires.known_size; src_len = c.requires.src_len; bpp_in_bounds = room_ordered a.self o.result a.bgr o.ensures c.requires.layout_ok a.width a.at (length a.dst.now) c.requires.bpp_in_bounds; fields_made = c.requires.fields_made ∙ sym (fields_ordered a.self o.result a.bgr o.ensures) }
 
 pub overflow_mul-filled : goal.overflow_mul-filled
 overflow_mul-filled c = omega (arith, cells_fit c.args.width c.args.self.bpp c.requires.layout_ok.depth)

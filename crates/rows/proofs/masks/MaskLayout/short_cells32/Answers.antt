@@ -16,7 +16,7 @@ pub loop-x-preserved : goal.loop-x-preserved
 loop-x-preserved c =
     let l = c.loop-x in
     let a = c.args in
-    let deep : a.self.bpp ≡ 32 = c.requires.bpp_value in
+    let deep : a.self.bpp ≡ 32 = c.requires.depth_32 in
     let v = c.short_cell-word in
     let p = c.put_u32 in (
       omega arith,
@@ -29,6 +29,6 @@ loop-x-preserved c =
 pub returns : goal.returns
 returns c =
     let a = c.args in
-    let deep : a.self.bpp ≡ 32 = c.requires.bpp_value in
+    let deep : a.self.bpp ≡ 32 = c.requires.depth_32 in
     let l = c.loop-x in
     sym (no_cell (mask_cell a.self 4 false a.src.now) 4 (length_short a.self false a.src.now 4 (inr deep) deep) a.width l.x a.at l.dst (omega arith)) ∙ l.invariant.2

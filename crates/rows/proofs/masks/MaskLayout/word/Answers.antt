@@ -6,25 +6,25 @@ use Rattle.rows.proofs.masks.MaskLayout.word.Goals.{else-in_bpp-eq4, then-in_bpp
 use Rattle.rows.proofs.masks.MaskLayout.word.Goals as goal
 
 pub bounds-src-s-2 : goal.bounds-src-s-2
-bounds-src-s-2 c = omega (arith, three_bytes c.args.in_bpp c.requires.fact)
+bounds-src-s-2 c = omega (arith, three_bytes c.args.in_bpp c.requires.known_size)
 
 pub field_of-r-requires : goal.field_of-r-requires
-field_of-r-requires c = omega (arith, ap length c.requires.fields_value, length_fields c.args.self false)
+field_of-r-requires c = omega (arith, ap length c.requires.fields_made, length_fields c.args.self false)
 
 pub bounds-src-s-3 : goal.bounds-src-s-3
-bounds-src-s-3 c = omega (arith, three_bytes c.args.in_bpp c.requires.fact)
+bounds-src-s-3 c = omega (arith, three_bytes c.args.in_bpp c.requires.known_size)
 
 pub field_of-g-requires : goal.field_of-g-requires
-field_of-g-requires c = omega (arith, ap length c.requires.fields_value, length_fields c.args.self false)
+field_of-g-requires c = omega (arith, ap length c.requires.fields_made, length_fields c.args.self false)
 
 pub bounds-src-s-4 : goal.bounds-src-s-4
-bounds-src-s-4 c = omega (arith, three_bytes c.args.in_bpp c.requires.fact)
+bounds-src-s-4 c = omega (arith, three_bytes c.args.in_bpp c.requires.known_size)
 
 pub field_of-b-requires : goal.field_of-b-requires
-field_of-b-requires c = omega (arith, ap length c.requires.fields_value, length_fields c.args.self false)
+field_of-b-requires c = omega (arith, ap length c.requires.fields_made, length_fields c.args.self false)
 
 pub field_of-a-requires : goal.field_of-a-requires
-field_of-a-requires c = omega (arith, ap length c.requires.fields_value, length_fields c.args.self false)
+field_of-a-requires c = omega (arith, ap length c.requires.fields_made, length_fields c.args.self false)
 
 pub returns : goal.returns
 unfolding channel_at
@@ -40,7 +40,7 @@ returns c =
     let below : c.if-in_bpp-eq4.alpha < 256 = elim (c.if-in_bpp-eq4.branch) [ then-in_bpp-eq4 w ↦ omega (arith, w.alpha-is, (c.shared_slice_known-2-1.given (a.x * n + 3)).fits) | else-in_bpp-eq4 w ↦ omega (arith, w.alpha-is) ] in
     word_of a.self n row a.x c.if-in_bpp-eq4.alpha r.result g.result b.result l.result
     (elim (c.if-in_bpp-eq4.branch) [ then-in_bpp-eq4 w ↦ rw (eq-eqb n 4 w.if-in_bpp-eq4.true) w.alpha-is | else-in_bpp-eq4 w ↦ rw (ne_eqb n 4 w.if-in_bpp-eq4.false) w.alpha-is ])
-    (read 0 (get_or row (a.x * n) 0) _ r.result c.requires.fields_value (omega arith) (c.shared_slice_known-2-1.given (a.x * n)).fits (omega arith) r.ensures)
-    (read 1 (get_or row (a.x * n + 1) 0) _ g.result c.requires.fields_value (omega arith) (c.shared_slice_known-2-1.given (a.x * n + 1)).fits (omega arith) g.ensures)
-    (read 2 (get_or row (a.x * n + 2) 0) _ b.result c.requires.fields_value (omega arith) (c.shared_slice_known-2-1.given (a.x * n + 2)).fits (omega arith) b.ensures)
-    (read 3 c.if-in_bpp-eq4.alpha _ l.result c.requires.fields_value (omega arith) below (omega arith) l.ensures)
+    (read 0 (get_or row (a.x * n) 0) _ r.result c.requires.fields_made (omega arith) (c.shared_slice_known-2-1.given (a.x * n)).fits (omega arith) r.ensures)
+    (read 1 (get_or row (a.x * n + 1) 0) _ g.result c.requires.fields_made (omega arith) (c.shared_slice_known-2-1.given (a.x * n + 1)).fits (omega arith) g.ensures)
+    (read 2 (get_or row (a.x * n + 2) 0) _ b.result c.requires.fields_made (omega arith) (c.shared_slice_known-2-1.given (a.x * n + 2)).fits (omega arith) b.ensures)
+    (read 3 c.if-in_bpp-eq4.alpha _ l.result c.requires.fields_made (omega arith) below (omega arith) l.ensures)

@@ -22,7 +22,7 @@ pub copy_rows-requires : goal.copy_rows-requires
 copy_rows-requires c =
     let a = c.args in
     let e = size (goal.at.copy_rows-requires c).After-row_stride in
-    let b = ap (λ (z : ℕ). a.width * z) c.source_bytes.ensures in record { bytes_le_stride = omega (arith, b); bytes_le_stored = omega (arith, b, e, copied_fits a.self (copied (goal.at.copy_rows-requires c).Then-is_copied) a.width); height_in_bounds = c.requires.height_in_bounds; height_in_bounds_2 = omega (arith, ap (λ (z : ℕ). z * a.height) e); origin_le_at = c.requires.origin_le_at }
+    let b = ap (λ (z : ℕ). a.width * z) c.source_bytes.ensures in record { bytes_le_stride = omega (arith, b); bytes_le_stored = omega (arith, b, e, copied_fits a.self (copied (goal.at.copy_rows-requires c).Then-is_copied) a.width); height_in_bounds = c.requires.height_in_bounds; dst_in_bounds = omega (arith, ap (λ (z : ℕ). z * a.height) e); origin_le_at = c.requires.origin_le_at }
 
 pub returns-then-is_copied : goal.returns-then-is_copied
 returns-then-is_copied c =
@@ -38,8 +38,8 @@ returns-then-is_copied c =
 
 pub pack_rows-requires : goal.pack_rows-requires
 pack_rows-requires c =
-    record { pack_ok = c.requires.pack_ok; self_bound = c.requires.self_bound; height_in_bounds = c.requires.height_in_bounds; height_in_bounds_2 = c.requires.height_in_bounds_2; origin_le_at = c.requires.origin_le_at; fields_ok = c.put_fields.ensures }
+    record { pack_ok = c.requires.pack_ok; self_bound = c.requires.self_bound; height_in_bounds = c.requires.height_in_bounds; dst_in_bounds = c.requires.dst_in_bounds; origin_le_at = c.requires.origin_le_at; fields_ok = c.put_fields.ensures }
 
 pub pack_rows-requires-2 : goal.pack_rows-requires-2
 pack_rows-requires-2 c =
-    record { pack_ok = c.requires.pack_ok; self_bound = c.requires.self_bound; height_in_bounds = c.requires.height_in_bounds; height_in_bounds_2 = c.requires.height_in_bounds_2; origin_le_at = c.requires.origin_le_at; fields_ok = no_fields c.args.self _ (sym c.in_mask_mode.ensures ∙ c.if-in_mask_mode.false) }
+    record { pack_ok = c.requires.pack_ok; self_bound = c.requires.self_bound; height_in_bounds = c.requires.height_in_bounds; dst_in_bounds = c.requires.dst_in_bounds; origin_le_at = c.requires.origin_le_at; fields_ok = no_fields c.args.self _ (sym c.in_mask_mode.ensures ∙ c.if-in_mask_mode.false) }

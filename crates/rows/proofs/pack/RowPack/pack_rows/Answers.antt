@@ -27,7 +27,7 @@ room : (c : In-loop-y) → c.loop-y.o + row_stride c.args.width (pack_bits c.arg
 room c =
     let a = c.args in
     let l = c.loop-y in
-    row_room (row_at a.self a.width a.height a.top_down a.plane.now a.stride) (row_stride a.width (pack_bits a.self)) a.at a.origin a.height a.dst.now a.starts.now l.dst l.starts l.o l.y l.invariant c.loop-y-test.true c.requires.height_in_bounds_2
+    row_room (row_at a.self a.width a.height a.top_down a.plane.now a.stride) (row_stride a.width (pack_bits a.self)) a.at a.origin a.height a.dst.now a.starts.now l.dst l.starts l.o l.y l.invariant c.loop-y-test.true c.requires.dst_in_bounds
 
 pub overflow_mul-bytes : goal.overflow_mul-bytes
 overflow_mul-bytes c = omega (arith, ap (λ (z : ℕ). c.args.width * z) c.source_bytes.ensures)
@@ -65,7 +65,7 @@ loop-y-preserved c =
     let n = c.note_start in
     let p = c.row in
     rows_turn (row_at a.self a.width a.height a.top_down a.plane.now a.stride) (row_stride a.width (pack_bits a.self)) a.at a.origin a.height a.dst.now a.starts.now l.dst l.starts l.o l.y l.invariant
-    p.new.dst n.new.starts _ (λ k. length_row_at a.self c.requires.pack_ok a.width a.height a.top_down a.plane.now a.stride k) c.requires.origin_le_at c.loop-y-test.true c.requires.height_in_bounds_2
+    p.new.dst n.new.starts _ (λ k. length_row_at a.self c.requires.pack_ok a.width a.height a.top_down a.plane.now a.stride k) c.requires.origin_le_at c.loop-y-test.true c.requires.dst_in_bounds
     (p.ensures ∙ ap (λ (r : List ℕ). put l.dst l.o (stored_row a.self a.width r)) (source_is a.plane.now a.stride (a.width * b.result) (a.width * pack_bytes a.self) c.if-top_down.from a.height l.y a.top_down (ap (λ (z : ℕ). a.width * z) b.ensures) (source (goal.at.loop-y-preserved c).Joined-top_down)))
     n.ensures (ap (λ (z : ℕ). l.o + z) (size (goal.at.loop-y-preserved c).After-row_stride-stored))
 

@@ -25,13 +25,13 @@ pub pack_indices-requires : goal.pack_indices-requires
 pack_indices-requires c =
     let a = c.args in
     let r = indices_ask a.self c.in-Indexed.bpp a.width (length a.src.now) a.at (length a.dst.now) c.in-Indexed.is c.requires.pack_ok c.requires.src_len c.requires.self_in_bounds (omega arith) in
-    record { bpp_value = r.0; src_len_bound = r.1.0; bpp_in_bounds = r.1.1 }
+    record { table_depth = r.0; src_len_bound = r.1.0; bpp_in_bounds = r.1.1 }
 
 pub pack-requires : goal.pack-requires
 pack-requires c =
     let a = c.args in
     let r = masks_ask a.self c.in-Masks.in_bpp c.in-Masks.bgr c.in-Masks.layout a.fields.now a.width (length a.src.now) a.at (length a.dst.now) c.in-Masks.is c.requires.pack_ok c.requires.src_len c.requires.self_in_bounds c.requires.fields_ok in
-    record { layout_ok = r.0; fact = r.1.0; src_len = r.1.1.0; bpp_in_bounds = r.1.1.1.0; fields_value = r.1.1.1.1 }
+    record { layout_ok = r.0; known_size = r.1.0; src_len = r.1.1.0; bpp_in_bounds = r.1.1.1.0; fields_made = r.1.1.1.1 }
 
 pub returns-in-Bgra32 : goal.returns-in-Bgra32
 returns-in-Bgra32 c =
