@@ -85,6 +85,7 @@ pub enum SourceFormat {
     Unknown,
 }
 
+#[tactic(auto, unfolding(crate::specs::Interface::format_at, crate::specs::Interface::formats))]
 fn format_at(format: u32) -> SourceFormat
     ensures { result ≡ format_at format }
 {
