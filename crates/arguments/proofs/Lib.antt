@@ -1,3 +1,6 @@
+pub mod FaultLaws
+pub mod NumberLaws
 pub mod OptionLaws
+pub mod OptionPlaces
 pub mod Pieces
 pub mod Examples

@@ -8,13 +8,19 @@ use native.Mathlib.Omega.{arith}
 use borrow.Author.Tests.{ltb-true, ltb-false, eq-eqb, ne_eqb}
 use lib.Dec.{eqb, ltb}
 use lib.ListN.{length, drop}
+use Rattle.std.specs.Prelude.{is_some as is_something, Option, Some, None, MatchOption, IfSome}
 use Rattle.arguments.specs.Words.{up_to, item_at, words_of}
-use Rattle.arguments.specs.Options.{option_named, is_whole, options_in, first, second, is_none, last_of, last_given, fault_at, first_of, first_fault}
+use Rattle.arguments.specs.Options.{option_named, carries_value, carried, value_in, is_given, is_whole, options_in, first, second, is_none, last_of, last_given, fault_at, first_of, first_fault}
 use Rattle.arguments.proofs.Pieces.{first_word, words_end, words_at, up_end}
 
 pub is_some : (text : List ℕ) (at : ℕ) → at < length text → is_none (words_of (drop at text)) ≡ false
 unfolding is_none
 is_some text at inside = rw (words_at text at inside)
+
+-- where no option is, there is no value
+pub no_value : [] ≡ value_in []
+unfolding value_in first second carries_value carried item_at up_to
+no_value = refl
 
 -- ---- from one option to the next
 
@@ -111,13 +117,18 @@ unfolding is_none
 found_before found [] = refl
 found_before found (w ∷ ws) = refl
 
-module _ (option : ℕ) (text : List ℕ) where
-  pub last_start : last_given option (words_of text) ≡ or_else (words_of (drop (length text) text)) (last_given option (words_of text))
-  last_start = rw (words_end text (length text) (omega arith)) (none_found (last_given option (words_of text)))
+-- the words from the place that was found
+abbrev pub words_found : List ℕ → Option ℕ → List (List ℕ)
+words_found text None = []
+words_found text (Some at) = words_of (drop at text)
 
-  pub last_end : (last at : ℕ) → length text ≤ at → or_else (words_of (drop last text)) (last_given option (words_of (drop at text))) ≡ words_of (drop last text)
+module _ (option : ℕ) (text : List ℕ) where
+  pub last_start : last_given option (words_of text) ≡ or_else [] (last_given option (words_of text))
+  last_start = none_found (last_given option (words_of text))
+
+  pub last_end : (found : List (List ℕ)) (at : ℕ) → length text ≤ at → or_else found (last_given option (words_of (drop at text))) ≡ found
   unfolding is_none last_given last_of options_in
-  last_end last at h = rw (words_end text at h)
+  last_end found at h = rw (words_end text at h)
 
   module _ (at next : ℕ) (inside : at < length text) (after : options_in (words_of (drop at text)) ≡ words_of (drop at text) ∷ options_in (words_of (drop next text))) where
     last_step : last_given option (words_of (drop at text))
@@ -136,25 +147,37 @@ module _ (option : ℕ) (text : List ℕ) where
     last_other found n =
         rw (last_step, ne_eqb (option_named (up_to 0 (drop at text))) option n) (found_before found (last_given option (words_of (drop next text))))
 
+pub found_last : (option : ℕ) (text : List ℕ) (found : Option ℕ) → IfSome found (λ at. at < length text) → last_given option (words_of text) ≡ words_found text found
+    → MatchOption found (last_given option (words_of text) ≡ []) (λ at. (at < length text) × (words_of (drop at text) ≡ last_given option (words_of text)))
+found_last option text None h e = e
+found_last option text (Some at) h e = (h, sym e)
+
+-- whether an option is given, by the place where it is
+pub given_at : (option : ℕ) (text : List ℕ) (found : Option ℕ)
+    → MatchOption found (last_given option (words_of text) ≡ []) (λ at. (at < length text) × (words_of (drop at text) ≡ last_given option (words_of text))) → is_something found ≡ is_given option (words_of text)
+unfolding is_given is_none
+given_at option text None e = rw e
+given_at option text (Some at) h = rw (← h.1) (sym (ap not (is_some text at h.0)))
+
 -- ---- the first that is not understood
 
-fault_first : (w : List ℕ) (ws : List (List ℕ)) → (fault_at (w ∷ ws) ≡ 0 → ⊥) → w ∷ ws ≡ first_fault (w ∷ ws)
+fault_first : (w : List ℕ) (ws : List (List ℕ)) → is_something (fault_at (w ∷ ws)) ≡ true → w ∷ ws ≡ first_fault (w ∷ ws)
 unfolding first_fault first_of options_in
-fault_first w [] n = rw (ne_eqb (fault_at (w ∷ [])) 0 n)
-fault_first w (v ∷ ws) n = rw (ne_eqb (fault_at (w ∷ v ∷ ws)) 0 n)
+fault_first w [] e = rw e
+fault_first w (v ∷ ws) e = rw e
 
 module _ (text : List ℕ) where
-  pub fault_end : (at : ℕ) → length text ≤ at → words_of (drop at text) ≡ first_fault (words_of (drop at text))
+  pub fault_end : (at : ℕ) → length text ≤ at → first_fault (words_of (drop at text)) ≡ []
   unfolding first_fault first_of options_in
   fault_end at h = rw (words_end text at h)
 
-  pub fault_here : (at : ℕ) → at < length text → (fault_at (words_of (drop at text)) ≡ 0 → ⊥) → words_of (drop at text) ≡ first_fault (words_of (drop at text))
-  fault_here at h n =
-      let e = words_at text at h in
-      let m = rw e at n in
-      rw e (fault_first (up_to 0 (drop at text)) (words_of (drop (at + length (up_to 0 (drop at text)) + 1) text)) m)
+  pub fault_here : (at : ℕ) → at < length text → is_something (fault_at (words_of (drop at text))) ≡ true → words_of (drop at text) ≡ first_fault (words_of (drop at text))
+  fault_here at h e =
+      let is = words_at text at h in
+      let m = rw is at e in
+      rw is (fault_first (up_to 0 (drop at text)) (words_of (drop (at + length (up_to 0 (drop at text)) + 1) text)) m)
 
   module _ (at next : ℕ) (after : options_in (words_of (drop at text)) ≡ words_of (drop at text) ∷ options_in (words_of (drop next text))) where
-    pub fault_later : fault_at (words_of (drop at text)) ≡ 0 → first_fault (words_of (drop next text)) ≡ first_fault (words_of (drop at text))
+    pub fault_later : is_something (fault_at (words_of (drop at text))) ≡ false → first_fault (words_of (drop next text)) ≡ first_fault (words_of (drop at text))
     unfolding first_fault first_of
-    fault_later e = rw (after, eq-eqb (fault_at (words_of (drop at text))) 0 e)
+    fault_later e = rw (after, e)

@@ -1,20 +1,25 @@
 -- Laws of words and items at a place of a text.
 use mathlib.Core.Path.{◌≡◌, refl, sym, ap, ◌∙◌}
-use mathlib.Core.Bool.{Bool, true, false, cond, ◌&&◌}
+use mathlib.Core.Bool.{Bool, true, false, cond, not, ◌&&◌}
 use mathlib.Core.List.{List, [], ◌∷◌}
-use Prim.Native.Nat.{ℕ, zero, suc, ◌+◌, ◌-◌, ◌≤◌, ◌<◌}
-use native.Mathlib.Nat.{not-suc-le-zero, le_of_suc-le-suc, le_of_lt, sub-zero, suc-add}
+use Prim.Native.Nat.{ℕ, suc, ◌+◌, ◌-◌, ◌≤◌, ◌<◌}
+use native.Mathlib.Nat.{le_of_lt}
 use native.Mathlib.Numerals.{add-one}
 use native.Mathlib.Omega.{arith}
-use borrow.Author.Tests.{eq-eqb, ne_eqb, eqb-true, eqb-false, le-leb, leb-false}
-use lib.Dec.{eqb, leb}
+use borrow.Author.Tests.{le-leb, leb-false, ltb-true, ltb-false}
+use lib.Dec.{eqb, leb, ltb}
 use lib.ListN.{length, get_or, take, drop, drop_of_length-le, length-drop}
+use Rattle.std.specs.List.{position, position_or_len, slice_split, onto_first, list_all, zip, slice_get}
+use Rattle.std.specs.Option.{unwrap_or, option_map}
+use Rattle.std.proofs.lemmas.List.Splits.{length-slice_split}
+use denote.Ref.{Bor}
+use Rattle.std.specs.Cmp.Lexicographic.{pointwise}
+use Rattle.std.specs.Prelude.{Option, Some, None, SomeIff}
+use Rattle.std.proofs.lemmas.Option.{cond_some, unwrap_or-slice_get, slice_get_past, slice_get-get_or}
+use Rattle.std.proofs.lemmas.List.Sums.{prefix_len-le-length, count_by-le-length}
+use Rattle.std.proofs.lemmas.List.Recursion.{is_position_or_len}
 use lib.Seq.{drop-cons, drop-drop, take_all}
-use Rattle.arguments.specs.Words.{part_of, up_to, onto, pieces, words_of, items_of, item_at, alike, byte_in, in_case, place_among}
-
--- one number more that it is not
-pub above : (k n : ℕ) → k ≤ n → (n ≡ k → ⊥) → k + 1 ≤ n
-above k n h e = omega arith
+use Rattle.arguments.specs.Words.{part_of, up_to, onto, pieces, words_of, items_of, item_at, alike, lowered, byte_in, in_case, place_among}
 
 -- the rest of a text, its first byte apart
 pub split : (text : List ℕ) (at : ℕ) → at < length text → drop at text ≡ get_or text at 0 ∷ drop (at + 1) text
@@ -22,19 +27,41 @@ split text at inside = rw (add-one at) (drop-cons text at 0 inside)
 
 -- ---- the bytes before a mark
 
+-- how many they are: the place of the mark
+pub up_position : (mark : ℕ) (xs : List ℕ) → length (up_to mark xs) ≡ position_or_len (λ (b : ℕ). eqb b mark) xs
+unfolding up_to
+up_position mark = is_position_or_len (λ (xs : List ℕ). length (up_to mark xs)) (λ (b : ℕ). eqb b mark) refl step
+  where
+    step : (x : ℕ) (xs : List ℕ) → length (up_to mark (x ∷ xs)) ≡ cond (eqb x mark) 0 (1 + length (up_to mark xs))
+    step x xs = go (eqb x mark)
+      where
+        go : (b : Bool) → length (cond b [] (x ∷ up_to mark xs)) ≡ cond b 0 (1 + length (up_to mark xs))
+        go true = refl
+        go false = omega arith
+
+pub none_false : (b : Bool) (n : ℕ) → cond b (Some n) None ≡ None → b ≡ false
+none_false true n e = cc
+none_false false n e = refl
+
+-- where a search for the mark ends, of the bytes from a place on
+module _ (mark : ℕ) (text : List ℕ) (at : ℕ) (inside : at ≤ length text) where
+  pub end_found : (n : ℕ) → position (λ (b : ℕ). eqb b mark) (drop at text) ≡ Some n
+      → (at + n ≡ at + length (up_to mark (drop at text))) × (at + n ≤ length text)
+  end_found n e =
+      let p = cond_some (ltb (position_or_len (λ (b : ℕ). eqb b mark) (drop at text)) (length (drop at text))) (position_or_len (λ (b : ℕ). eqb b mark) (drop at text)) n e in
+      let h = ltb-true (position_or_len (λ (b : ℕ). eqb b mark) (drop at text)) (length (drop at text)) p.0 in
+      (omega (arith, p.1, up_position mark (drop at text)), omega (arith, p.1, h, length-drop at text))
+
+  pub end_missed : position (λ (b : ℕ). eqb b mark) (drop at text) ≡ None
+      → (length text ≡ at + length (up_to mark (drop at text))) × (length text ≤ length text)
+  end_missed e =
+      let h = ltb-false (position_or_len (λ (b : ℕ). eqb b mark) (drop at text)) (length (drop at text)) (none_false (ltb (position_or_len (λ (b : ℕ). eqb b mark) (drop at text)) (length (drop at text))) (position_or_len (λ (b : ℕ). eqb b mark) (drop at text)) e) in
+      (omega (arith, h, up_position mark (drop at text), prefix_len-le-length (λ (b : ℕ). not (eqb b mark)) (drop at text), length-drop at text), omega arith)
+
 module _ (mark : ℕ) (text : List ℕ) (at : ℕ) where
   pub up_end : length text ≤ at → up_to mark (drop at text) ≡ []
   unfolding up_to
   up_end h = rw (drop_of_length-le text h)
-
-  module _ (inside : at < length text) where
-    pub up_mark : get_or text at 0 ≡ mark → up_to mark (drop at text) ≡ []
-    unfolding up_to
-    up_mark e = rw (split text at inside, eq-eqb (get_or text at 0) mark e)
-
-    pub up_step : (get_or text at 0 ≡ mark → ⊥) → up_to mark (drop at text) ≡ get_or text at 0 ∷ up_to mark (drop (at + 1) text)
-    unfolding up_to
-    up_step n = rw (split text at inside, ne_eqb (get_or text at 0) mark n)
 
 pub take_up : (mark : ℕ) (xs : List ℕ) → take (length (up_to mark xs)) xs ≡ up_to mark xs
 unfolding up_to
@@ -47,21 +74,6 @@ take_up mark (x ∷ xs) = go (eqb x mark) (take_up mark xs)
 
 -- ---- items
 
--- a byte ends one item at most
-pub one_at_most : (ends : Bool) (n : ℕ) → n ≡ cond ends 1 0 → n ≤ 1
-one_at_most true n e = omega arith
-one_at_most false n e = omega arith
-
-at_least_one : (mark : ℕ) (xs : List ℕ) → 1 ≤ length (items_of mark xs)
-unfolding items_of pieces onto
-at_least_one mark [] = omega arith
-at_least_one mark (x ∷ xs) = go (eqb x mark) (items_of mark xs)
-  where
-    go : (b : Bool) (ps : List (List ℕ)) → 1 ≤ length (cond b ([] ∷ ps) (onto x ps))
-    go true ps = omega arith
-    go false [] = omega arith
-    go false (p ∷ ps) = omega arith
-
 -- the first item, or none, of pieces: what stands before the first mark
 first_up : (mark : ℕ) (rest : List (List ℕ)) (xs : List ℕ) → item_at rest 0 ≡ [] → item_at (pieces mark rest xs) 0 ≡ up_to mark xs
 unfolding pieces onto up_to item_at
@@ -73,52 +85,35 @@ first_up mark rest (x ∷ xs) e = go (eqb x mark) (pieces mark rest xs) (first_u
     go false [] q = ap (λ (r : List ℕ). x ∷ r) q
     go false (p ∷ ps) q = ap (λ (r : List ℕ). x ∷ r) q
 
-pub first_item : (mark : ℕ) (xs : List ℕ) → item_at (items_of mark xs) 0 ≡ up_to mark xs
-unfolding items_of item_at
-first_item mark xs = first_up mark ([] ∷ []) xs refl
-
 pub first_word : (xs : List ℕ) → item_at (words_of xs) 0 ≡ up_to 0 xs
 unfolding words_of item_at
 first_word xs = first_up 0 [] xs refl
 
-length-onto : (x : ℕ) (ps : List (List ℕ)) → 1 ≤ length ps → length (onto x ps) ≡ length ps
+onto_is : (x : ℕ) (ps : List (List ℕ)) → onto x ps ≡ onto_first x ps
 unfolding onto
-length-onto x [] h = absurd (not-suc-le-zero h)
-length-onto x (p ∷ ps) h = refl
+onto_is x [] = refl
+onto_is x (p ∷ ps) = refl
 
-later_onto : (x : ℕ) (ps : List (List ℕ)) (k : ℕ) → item_at (onto x ps) (suc k) ≡ item_at ps (suc k)
-unfolding onto item_at
-later_onto x [] k = refl
-later_onto x (p ∷ ps) k = refl
+-- the items are the parts that a slice's `split` gives
+pub items_split : (mark : ℕ) (xs : List ℕ) → slice_split (λ (b : ℕ). eqb b mark) xs ≡ items_of mark xs
+unfolding items_of pieces
+items_split mark [] = refl
+items_split mark (x ∷ xs) = go (eqb x mark) (items_split mark xs)
+  where
+    go : (b : Bool) → slice_split (λ (y : ℕ). eqb y mark) xs ≡ items_of mark xs
+        → cond b ([] ∷ slice_split (λ (y : ℕ). eqb y mark) xs) (onto_first x (slice_split (λ (y : ℕ). eqb y mark) xs)) ≡ cond b ([] ∷ items_of mark xs) (onto x (items_of mark xs))
+    go true e = ap (λ (ps : List (List ℕ)). [] ∷ ps) e
+    go false e = ap (onto_first x) e ∙ sym (onto_is x (items_of mark xs))
 
-module _ (mark : ℕ) (text : List ℕ) (at : ℕ) where
-  pub items_end : length text ≤ at → items_of mark (drop at text) ≡ [] ∷ []
-  unfolding items_of pieces
-  items_end h = rw (drop_of_length-le text h)
+pub items_most : (mark : ℕ) (xs : List ℕ) → length (items_of mark xs) ≤ length xs + 1
+items_most mark xs = rw (← items_split mark xs, length-slice_split (λ (b : ℕ). eqb b mark) xs) (omega (arith, count_by-le-length (λ (b : ℕ). eqb b mark) xs))
 
-  module _ (inside : at < length text) where
-    -- a mark begins a new item
-    pub items_mark : get_or text at 0 ≡ mark → items_of mark (drop at text) ≡ [] ∷ items_of mark (drop (at + 1) text)
-    unfolding items_of pieces
-    items_mark e = rw (split text at inside, eq-eqb (get_or text at 0) mark e)
-
-    items_other : (get_or text at 0 ≡ mark → ⊥) → items_of mark (drop at text) ≡ onto (get_or text at 0) (items_of mark (drop (at + 1) text))
-    unfolding items_of pieces
-    items_other n = rw (split text at inside, ne_eqb (get_or text at 0) mark n)
-
-    -- and any other byte none
-    length_other : (get_or text at 0 ≡ mark → ⊥) → length (items_of mark (drop at text)) ≡ length (items_of mark (drop (at + 1) text))
-    length_other n = ap length (items_other n) ∙ length-onto (get_or text at 0) (items_of mark (drop (at + 1) text)) (at_least_one mark (drop (at + 1) text))
-
-    pub length_step : (n : ℕ) → n ≡ cond (eqb (get_or text at 0) mark) 1 0 → length (items_of mark (drop at text)) ≡ n + length (items_of mark (drop (at + 1) text))
-    length_step n e = go (eqb (get_or text at 0) mark) refl
-      where
-        go : (b : Bool) → eqb (get_or text at 0) mark ≡ b → length (items_of mark (drop at text)) ≡ n + length (items_of mark (drop (at + 1) text))
-        go true q = let one : n ≡ 1 = rw q at e in omega (arith, ap length (items_mark (eqb-true (get_or text at 0) mark q)))
-        go false q = let none : n ≡ 0 = rw q at e in omega (arith, length_other (eqb-false (get_or text at 0) mark q))
-
-    pub later_other : (k : ℕ) → (get_or text at 0 ≡ mark → ⊥) → item_at (items_of mark (drop at text)) (suc k) ≡ item_at (items_of mark (drop (at + 1) text)) (suc k)
-    later_other k n = ap (λ (ps : List (List ℕ)). item_at ps (suc k)) (items_other n) ∙ later_onto (get_or text at 0) (items_of mark (drop (at + 1) text)) k
+-- item k, or nothing
+pub item_got : (got : Option (Bor (List ℕ))) (r none : Bor (List ℕ)) → r ≡ unwrap_or got none → none.now ≡ [] → (mark : ℕ) (xs : List ℕ) (k : ℕ)
+    → option_map (λ (b : Bor (List ℕ)). b.now) got ≡ slice_get (items_of mark xs) k → r.now ≡ item_at (items_of mark xs) k
+unfolding item_at
+item_got None r none e z mark xs k h = ap (λ (b : Bor (List ℕ)). b.now) e ∙ z ∙ ap (λ (o : Option (List ℕ)). unwrap_or o []) h ∙ unwrap_or-slice_get (items_of mark xs) k []
+item_got (Some b) r none e z mark xs k h = ap (λ (b : Bor (List ℕ)). b.now) e ∙ ap (λ (o : Option (List ℕ)). unwrap_or o []) h ∙ unwrap_or-slice_get (items_of mark xs) k []
 
 -- ---- pieces, each ended by a mark, and words
 
@@ -162,32 +157,14 @@ module _ (text : List ℕ) (at : ℕ) where
   unfolding words_of
   words_at = pieces-at 0 text at
 
--- ---- items at a place
-
-module _ (mark : ℕ) where
-  -- the first item, where a mark ends it and where the text does
-  pub items_more : (xs : List ℕ) → length (up_to mark xs) < length xs → items_of mark xs ≡ up_to mark xs ∷ items_of mark (drop (length (up_to mark xs) + 1) xs)
-  unfolding items_of pieces onto up_to
-  items_more [] h = absurd (not-suc-le-zero h)
-  items_more (x ∷ xs) h = go (eqb x mark) h (items_more xs)
-    where
-      go : (b : Bool) → length (cond b [] (x ∷ up_to mark xs)) < suc (length xs)
-          → (length (up_to mark xs) < length xs → items_of mark xs ≡ up_to mark xs ∷ items_of mark (drop (length (up_to mark xs) + 1) xs))
-          → cond b ([] ∷ items_of mark xs) (onto x (items_of mark xs)) ≡ cond b [] (x ∷ up_to mark xs) ∷ items_of mark (drop (length (cond b [] (x ∷ up_to mark xs)) + 1) (x ∷ xs))
-      go true k f = refl
-      go false k f = rw (suc-add (length (up_to mark xs)) 1) (ap (onto x) (f (le_of_suc-le-suc k)))
-
-  pub items_last : (xs : List ℕ) → length xs ≤ length (up_to mark xs) → items_of mark xs ≡ up_to mark xs ∷ []
-  unfolding items_of pieces onto up_to
-  items_last [] h = refl
-  items_last (x ∷ xs) h = go (eqb x mark) h (items_last xs)
-    where
-      go : (b : Bool) → suc (length xs) ≤ length (cond b [] (x ∷ up_to mark xs)) → (length xs ≤ length (up_to mark xs) → items_of mark xs ≡ up_to mark xs ∷ [])
-          → cond b ([] ∷ items_of mark xs) (onto x (items_of mark xs)) ≡ cond b [] (x ∷ up_to mark xs) ∷ []
-      go true k f = absurd (not-suc-le-zero k)
-      go false k f = ap (onto x) (f (le_of_suc-le-suc k))
-
 -- ---- texts that are alike
+
+pub alike_is : (a b : List ℕ) → pointwise eqb a b ≡ alike a b
+unfolding alike
+alike_is [] [] = refl
+alike_is [] (y ∷ ys) = refl
+alike_is (x ∷ xs) [] = refl
+alike_is (x ∷ xs) (y ∷ ys) = ap (λ (r : Bool). eqb x y && r) (alike_is xs ys)
 
 pub unlike_length : (a b : List ℕ) → (length a ≡ length b → ⊥) → alike a b ≡ false
 unfolding alike
@@ -200,27 +177,18 @@ unlike_length (x ∷ xs) (y ∷ ys) n = go (eqb x y) (unlike_length xs ys (λ e.
     go true e = e
     go false e = refl
 
-module _ (a b : List ℕ) (i : ℕ) (long : length a ≡ length b) where
-  pub alike_end : length a ≤ i → alike (drop i a) (drop i b) ≡ true
-  unfolding alike
-  alike_end h =
-      let k : length b ≤ i = omega arith in
-      rw (drop_of_length-le a h, drop_of_length-le b k)
-
-  module _ (inside : i < length a) where
-    alike_here : alike (drop i a) (drop i b) ≡ (eqb (get_or a i 0) (get_or b i 0) && alike (drop (i + 1) a) (drop (i + 1) b))
-    unfolding alike
-    alike_here =
-        let k : i < length b = omega arith in
-        rw (split a i inside, split b i k)
-
-    pub alike_step : get_or a i 0 ≡ get_or b i 0 → alike (drop i a) (drop i b) ≡ alike (drop (i + 1) a) (drop (i + 1) b)
-    alike_step e = rw (alike_here, eq-eqb (get_or a i 0) (get_or b i 0) e)
-
-    pub unlike : (get_or a i 0 ≡ get_or b i 0 → ⊥) → alike (drop i a) (drop i b) ≡ false
-    unlike n = rw (alike_here, ne_eqb (get_or a i 0) (get_or b i 0) n)
-
 -- ---- a name in any case
+
+-- byte by byte
+pub alike_in : (any : Bool) (text name : List ℕ) → length text ≡ length name
+    → list_all (λ (p : ℕ × ℕ). eqb (p.0) (byte_in any (p.1))) (zip text name) ≡ alike text (in_case any name)
+unfolding in_case byte_in alike
+alike_in false [] [] e = refl
+alike_in true [] [] e = refl
+alike_in any [] (y ∷ ys) e = let z : ⊥ = omega arith in absurd z
+alike_in any (x ∷ xs) [] e = let z : ⊥ = omega arith in absurd z
+alike_in false (x ∷ xs) (y ∷ ys) e = ap (λ (r : Bool). eqb x y && r) (alike_in false xs ys (omega arith))
+alike_in true (x ∷ xs) (y ∷ ys) e = ap (λ (r : Bool). eqb x (lowered y) && r) (alike_in true xs ys (omega arith))
 
 pub length_case : (any : Bool) (name : List ℕ) → length (in_case any name) ≡ length name
 unfolding in_case
@@ -228,20 +196,19 @@ length_case false name = refl
 length_case true [] = refl
 length_case true (x ∷ xs) = ap suc (length_case true xs)
 
-pub byte_case : (any : Bool) (name : List ℕ) (i : ℕ) → i < length name → get_or (in_case any name) i 0 ≡ byte_in any (get_or name i 0)
-unfolding in_case byte_in
-byte_case false name i h = refl
-byte_case true [] i h = absurd (not-suc-le-zero h)
-byte_case true (x ∷ xs) zero h = refl
-byte_case true (x ∷ xs) (suc i) h = byte_case true xs i (le_of_suc-le-suc h)
+pub unlike_case : (any : Bool) (text name : List ℕ) → (length text ≡ length name → ⊥) → false ≡ alike text (in_case any name)
+unlike_case any text name n = sym (unlike_length text (in_case any name) (λ e. n (e ∙ length_case any name)))
 
 -- ---- parts of a text
 
+pub piece_up : (mark : ℕ) (text : List ℕ) (at to : ℕ) → to ≡ at + length (up_to mark (drop at text)) → take (to - at) (drop at text) ≡ up_to mark (drop at text)
+piece_up mark text at to e =
+    let n : to - at ≡ length (up_to mark (drop at text)) = omega arith in
+    rw n (take_up mark (drop at text))
+
 pub part_up : (mark : ℕ) (text : List ℕ) (at to : ℕ) (part : List ℕ) → part ≡ part_of text at to → to ≡ at + length (up_to mark (drop at text)) → to ≤ length text
     → part ≡ up_to mark (drop at text)
-part_up mark text at to part is e h =
-    let n : to - at ≡ length (up_to mark (drop at text)) = omega arith in
-    is ∙ rw (le-leb at to (omega arith), le-leb to (length text) h, n) (take_up mark (drop at text))
+part_up mark text at to part is e h = is ∙ rw (le-leb at to (omega arith), le-leb to (length text) h) (piece_up mark text at to e)
 
 pub part_rest : (text : List ℕ) (from : ℕ) → part_of text from (length text) ≡ drop from text
 part_rest text from = go (leb from (length text)) refl
@@ -252,33 +219,33 @@ part_rest text from = go (leb from (length text)) refl
         rw (q, le-leb (length text) (length text) (omega arith)) (take_all (length text - from) (drop from text) h)
     go false q = rw q (sym (drop_of_length-le text (le_of_lt (leb-false from (length text) q))))
 
--- a text that begins as another: a shorter one does not
-pub alike_start : (text start : List ℕ) → 1 ≤ length start → alike (part_of text 0 (length start)) start ≡ alike (take (length start) text) start
-alike_start text start some = go (leb (length start) (length text)) refl
-  where
-    go : (b : Bool) → leb (length start) (length text) ≡ b → alike (part_of text 0 (length start)) start ≡ alike (take (length start) text) start
-    go true q = rw (le-leb 0 (length start) (omega arith), q, sub-zero (length start))
-    go false q =
-        let short : length text < length start = leb-false (length start) (length text) q in
-        let all : take (length start) text ≡ text = take_all (length start) text (omega arith) in
-        rw (q, all, le-leb 0 (length start) (omega arith)) (unlike_length [] start (λ e. omega arith) ∙ sym (unlike_length text start (λ e. omega arith)))
-
 -- ---- a name among items
 
-pub split_items : (ps : List (List ℕ)) (k : ℕ) → k < length ps → drop k ps ≡ item_at ps k ∷ drop (k + 1) ps
-unfolding item_at
-split_items ps k inside = rw (add-one k) (drop-cons ps k [] inside)
+pub place_position : (name : List ℕ) (ps : List (List ℕ)) → place_among ps name ≡ position_or_len (λ (p : List ℕ). alike p name) ps
+unfolding place_among
+place_position name = is_position_or_len (λ (ps : List (List ℕ)). place_among ps name) (λ (p : List ℕ). alike p name) refl step
+  where
+    step : (p : List ℕ) (ps : List (List ℕ)) → place_among (p ∷ ps) name ≡ cond (alike p name) 0 (1 + place_among ps name)
+    step p ps = ap (λ (n : ℕ). cond (alike p name) 0 n) (omega arith)
 
-module _ (ps : List (List ℕ)) (name : List ℕ) (k : ℕ) where
-  pub place_end : length ps ≤ k → place_among (drop k ps) name ≡ 0
-  unfolding place_among
-  place_end h = rw (drop_of_length-le ps h)
+some_below : (n most : ℕ) → SomeIff (cond (ltb n most) (Some n) None) (n < most) n
+some_below n most = go (ltb n most) refl
+  where
+    go : (b : Bool) → ltb n most ≡ b → SomeIff (cond b (Some n) None) (n < most) n
+    go true q = (ltb-true n most q, refl)
+    go false q = let h = ltb-false n most q in λ k. omega arith
 
-  module _ (inside : k < length ps) where
-    pub place_here : alike (item_at ps k) name ≡ true → place_among (drop k ps) name ≡ 0
-    unfolding place_among
-    place_here e = rw (split_items ps k inside, e)
+pub place_found : (name list : List ℕ) (r : Option ℕ) → r ≡ position (λ (p : List ℕ). alike p name) (slice_split (λ (b : ℕ). eqb b 44) list)
+    → SomeIff r (place_among (items_of 44 list) name < length (items_of 44 list)) (place_among (items_of 44 list) name)
+place_found name list r e = rw (e, items_split 44 list) (go (items_of 44 list))
+  where
+    go : (ps : List (List ℕ)) → SomeIff (position (λ (p : List ℕ). alike p name) ps) (place_among ps name < length ps) (place_among ps name)
+    go ps = rw (place_position name ps) (some_below (position_or_len (λ (p : List ℕ). alike p name) ps) (length ps))
 
-    pub place_later : alike (item_at ps k) name ≡ false → place_among (drop k ps) name ≡ suc (place_among (drop (k + 1) ps) name)
-    unfolding place_among
-    place_later e = rw (split_items ps k inside, e)
+-- the element at a name's place, of a list as long as that of the names
+module _ {X : Type 0} (elements : List X) (names : List (List ℕ)) (name : List ℕ) (long : length names ≡ length elements) where
+  pub no_place : (place_among names name < length names → ⊥) → None ≡ slice_get elements (place_among names name)
+  no_place h = sym (slice_get_past elements (place_among names name) (omega arith))
+
+  pub at_place : (k : ℕ) → (place_among names name < length names) × (k ≡ place_among names name) → (d : X) → Some (get_or elements k d) ≡ slice_get elements (place_among names name)
+  at_place k h d = let inside = h.0 in sym (slice_get-get_or elements k d (omega (arith, h.1))) ∙ ap (slice_get elements) h.1

@@ -1,102 +1,104 @@
 // A command's options: one that is looked up, the check of all, and what they say together.
-ghost use Rattle.std.specs.Prelude.{◌≡◌, ◌∷◌, ◌+◌, ◌*◌, ◌≤◌, ◌<◌, length, drop};
+ghost use Rattle.std.specs.Prelude.{◌≡◌, [], ◌∷◌, ◌+◌, ◌*◌, ◌≤◌, ◌<◌, pos, MatchOption, unwrap_or, slice_get, length, drop};
 ghost use Rattle.leaves.specs.Formats.{bytes_per_pixel};
 ghost use Rattle.arguments.specs.Numbers.{number32, signed32};
-ghost use Rattle.arguments.specs.Options.{option_named, stands_alone, carries_value, carried, is_whole, options_in, last_given, is_given, value_in, value_of, unless, are_masks, fault_of_name, fault_of, fault_alone, fault_last, fault_at, first_fault, number_asked, stride_asked, format_asked, has_palette_of, source_asked, masks_asked, calibrated_asked, intent_asked, pels_asked, options_asked};
+ghost use Rattle.arguments.specs.Options.{all_options, place_of, option_named, stands_alone, carries_value, carried, is_whole, options_in, last_given, is_given, value_in, value_of, unless, are_masks, fault_of, fault_alone, fault_at, first_fault, number_asked, stride_asked, format_asked, has_palette_of, source_asked, masks_asked, calibrated_asked, intent_asked, pels_asked, options_asked};
 ghost use Rattle.arguments.specs.Words.{up_to, items_of, item_at, words_of};
 
-use crate::formats::{format_named, is_format};
-use crate::numbers::{are_numbers, is_number, is_number32, number, number16, number32, signed32};
-use crate::words::{both, either, end_of, item, part, piece, place_in};
+use crate::formats::format_called;
+use crate::numbers::{are_numbers, number, number16, number32, signed32};
+use crate::words::{end_of, item, part, piece, place_in};
 use leaves::bitfields::BmpBitfields;
 use leaves::encoder::EncodeSource;
 use leaves::image::BmpPixelFormat;
 use leaves::options::{CalibratedRgb, EncodeOptions};
 use leaves::types::{LCS_GM_IMAGES, MAX_FILE, PELS_PER_METER};
 
-// The options by number. The first ten stand alone, and each of the others has a value.
-pub const TOP_DOWN: usize = 0;
-
-const MINIMAL_PALETTE: usize = 1;
-
-const NO_RLE: usize = 2;
-
-pub const NO_EMBED_ICC: usize = 3;
-
-pub const MORE_FOLLOWS: usize = 4;
-
-pub const SAMPLE_PALETTE: usize = 5;
-
-pub const HELP: usize = 6;
-
-pub const SHORT_HELP: usize = 7;
-
-pub const VERSION: usize = 8;
-
-const END_OF_OPTIONS: usize = 9;
-
-pub const FORMAT: usize = 10;
-
-pub const WIDTH: usize = 11;
-
-pub const HEIGHT: usize = 12;
-
-pub const STRIDE: usize = 13;
-
-const RENDERING_INTENT: usize = 14;
-
-const BITFIELDS: usize = 15;
-
-const CALIBRATED_RGB: usize = 16;
-
-const LIMIT: usize = 17;
-
-const PELS: usize = 18;
-
-pub const PLANE: usize = 19;
-
-pub const CSV: usize = 20;
-
-pub const PALETTE: usize = 21;
-
-pub const ICC: usize = 22;
-
-pub const LINKED_ICC: usize = 23;
-
-pub const OUT: usize = 24;
-
-pub const READ: usize = 25;
-
-pub const EDGES: usize = 26;
-
-pub const LOWS: usize = 27;
-
-pub const HIGHS: usize = 28;
+// The options in the order of their names. The first ten stand alone, and each of the others has a value.
+#[derive(Clone, Copy, PartialEq, Eq)]
+pub enum CommandOption {
+    TopDown,
+    MinimalPalette,
+    NoRle,
+    NoEmbedIcc,
+    MoreFollows,
+    SamplePalette,
+    Help,
+    ShortHelp,
+    Version,
+    EndOfOptions,
+    Format,
+    Width,
+    Height,
+    Stride,
+    RenderingIntent,
+    Bitfields,
+    Calibrated,
+    Limit,
+    Pels,
+    Plane,
+    Csv,
+    Palette,
+    Icc,
+    LinkedIcc,
+    Out,
+    Read,
+    Edges,
+    Lows,
+    Highs,
+}
 
 // Why an option is not understood.
-const UNDERSTOOD: usize = 0;
+#[derive(Clone, Copy, PartialEq, Eq)]
+pub enum Fault {
+    UnknownOption,
+    NoValue,
+    NoNumber,
+    UnknownFormat,
+    NotMasks,
+    NotCalibrated,
+    NoStride,
+    TakesNoValue,
+    WordBehind,
+    NoLimit,
+    NoPels,
+}
 
-const UNKNOWN_OPTION: usize = 1;
+// The options in order.
+const OPTIONS: [CommandOption; 29] = [
+    CommandOption::TopDown,
+    CommandOption::MinimalPalette,
+    CommandOption::NoRle,
+    CommandOption::NoEmbedIcc,
+    CommandOption::MoreFollows,
+    CommandOption::SamplePalette,
+    CommandOption::Help,
+    CommandOption::ShortHelp,
+    CommandOption::Version,
+    CommandOption::EndOfOptions,
+    CommandOption::Format,
+    CommandOption::Width,
+    CommandOption::Height,
+    CommandOption::Stride,
+    CommandOption::RenderingIntent,
+    CommandOption::Bitfields,
+    CommandOption::Calibrated,
+    CommandOption::Limit,
+    CommandOption::Pels,
+    CommandOption::Plane,
+    CommandOption::Csv,
+    CommandOption::Palette,
+    CommandOption::Icc,
+    CommandOption::LinkedIcc,
+    CommandOption::Out,
+    CommandOption::Read,
+    CommandOption::Edges,
+    CommandOption::Lows,
+    CommandOption::Highs,
+];
 
-const NO_VALUE: usize = 2;
-
-const NO_NUMBER: usize = 3;
-
-const UNKNOWN_FORMAT: usize = 4;
-
-const NOT_MASKS: usize = 5;
-
-const NOT_CALIBRATED: usize = 6;
-
-const NO_STRIDE: usize = 7;
-
-const TAKES_NO_VALUE: usize = 8;
-
-const WORD_BEHIND: usize = 9;
-
-const NO_LIMIT: usize = 10;
-
-const NO_PELS: usize = 11;
+// What counts as the number of a value that is none, as the check says before: 2^60.
+const NO_NUMBER: u64 = 1 << 60;
 
 // The word that starts at a place.
 pub fn word<'a>(words: &'a [u8], at: usize) -> &'a [u8]
@@ -106,21 +108,22 @@ pub fn word<'a>(words: &'a [u8], at: usize) -> &'a [u8]
     piece(words, at, 0)
 }
 
-// The number of the option that a word names.
-fn option_named(word: &[u8]) -> usize
-    ensures { result ≡ option_named word.now }
+// The option that a word names before its =.
+fn option_named(word: &[u8]) -> Option<CommandOption>
+    ensures { result ≡ slice_get all_options (option_named word.now) }
 {
     let names =
         b"--top-down,--minimal-palette,--no-rle,--no-embed-icc,--more-follows,--sample-palette,--help,-h,--version,--,\
         --format,--width,--height,--stride,--rendering-intent,--bitfields,--calibrated-rgb,--limit,--pels,--plane,\
         --csv,--palette,--icc,--linked-icc,--out,--read,--edges,--lows,--highs";
-    place_in(names, piece(word, 0, b'='), false)
+    let place = place_in(names, piece(word, 0, b'='), false)?;
+    Some(OPTIONS[place])
 }
 
-fn stands_alone(option: usize) -> bool
-    ensures { result ≡ stands_alone option }
+fn stands_alone(option: CommandOption) -> bool
+    ensures { result ≡ stands_alone (place_of option) }
 {
-    option <= END_OF_OPTIONS
+    option as usize <= CommandOption::EndOfOptions as usize
 }
 
 // Whether a word has a value behind a =.
@@ -141,7 +144,7 @@ fn carried<'a>(word: &'a [u8]) -> &'a [u8]
 fn is_whole(word: &[u8]) -> bool
     ensures { result ≡ is_whole word.now }
 {
-    either(stands_alone(option_named(word)), carries_value(word))
+    option_named(word).is_some_and(stands_alone) || carries_value(word)
 }
 
 // The place after the word at a place.
@@ -166,25 +169,25 @@ fn after_option(words: &[u8], at: usize) -> usize
 
 // ---- one option
 
-// Where an option is given last; the words' end where it is not given.
-fn last_given(words: &[u8], option: usize) -> usize
-    ensures { (result ≤ length words.now) × (words_of (drop result words.now) ≡ last_given option (words_of words.now)) }
+// Where an option is given last.
+fn last_given(words: &[u8], option: CommandOption) -> Option<usize>
+    ensures { MatchOption result (last_given (place_of option) (words_of words.now) ≡ []) (λ at. (at < length words.now) × (words_of (drop at words.now) ≡ last_given (place_of option) (words_of words.now))) }
 {
-    let mut last = words.len();
+    let mut last = None;
     let mut at = 0;
     while at < words.len() {
-        if option_named(word(words, at)) == option {
-            last = at;
+        if option_named(word(words, at)) == Some(option) {
+            last = Some(at);
         }
         at = after_option(words, at);
     }
     last
 }
 
-pub fn is_given(words: &[u8], option: usize) -> bool
-    ensures { result ≡ is_given option (words_of words.now) }
+pub fn is_given(words: &[u8], option: CommandOption) -> bool
+    ensures { result ≡ is_given (place_of option) (words_of words.now) }
 {
-    last_given(words, option) < words.len()
+    last_given(words, option).is_some()
 }
 
 // The name of the option at a place.
@@ -206,16 +209,19 @@ pub fn value_at<'a>(words: &'a [u8], at: usize) -> &'a [u8]
     }
     let next = after_word(words, at);
     if next > words.len() {
-        return &words[0..0];
+        return b"";
     }
     word(words, next)
 }
 
 // An option's value; empty where it is not given.
-pub fn value_of<'a>(words: &'a [u8], option: usize) -> &'a [u8]
-    ensures { result.now ≡ value_of option (words_of words.now) }
+pub fn value_of<'a>(words: &'a [u8], option: CommandOption) -> &'a [u8]
+    ensures { result.now ≡ value_of (place_of option) (words_of words.now) }
 {
-    value_at(words, last_given(words, option))
+    match last_given(words, option) {
+        Some(at) => value_at(words, at),
+        None => b"",
+    }
 }
 
 // ---- the check
@@ -223,115 +229,89 @@ pub fn value_of<'a>(words: &'a [u8], option: usize) -> &'a [u8]
 fn are_masks(list: &[u8]) -> bool
     ensures { result ≡ are_masks list.now }
 {
-    are_numbers(list, 5, 0) && number(item(list, 0, b',')) <= 0xFFFF
+    are_numbers(list, 5, 0) && number(item(list, 0, b',')).is_some_and(|depth| depth <= 0xFFFF)
 }
 
-fn unless(good: bool, fault: usize) -> usize
+fn unless(good: bool, fault: Fault) -> Option<Fault>
     ensures { result ≡ unless good fault }
 {
-    if good { UNDERSTOOD } else { fault }
+    if good { None } else { Some(fault) }
 }
 
-// What is wrong with a file's name.
-fn fault_of_name(option: usize, name: &[u8]) -> usize
-    ensures { result ≡ fault_of_name option name.now }
+// What is wrong with the value of an option that takes one.
+fn fault_of(option: CommandOption, value: &[u8]) -> Option<Fault>
+    ensures { result ≡ fault_of (place_of option) value.now }
 {
-    if option < PLANE {
-        return UNKNOWN_OPTION;
+    match option {
+        CommandOption::Format => unless(format_called(value).is_some(), Fault::UnknownFormat),
+        CommandOption::Width | CommandOption::Height | CommandOption::RenderingIntent => {
+            unless(number32(value).is_some(), Fault::NoNumber)
+        }
+        CommandOption::Stride => unless(number(value).is_some(), Fault::NoStride),
+        CommandOption::Bitfields => unless(are_masks(value), Fault::NotMasks),
+        CommandOption::Calibrated => unless(are_numbers(value, 12, 9), Fault::NotCalibrated),
+        CommandOption::Limit => unless(number(value).is_some(), Fault::NoLimit),
+        CommandOption::Pels => unless(are_numbers(value, 2, 2), Fault::NoPels),
+        CommandOption::Plane
+        | CommandOption::Csv
+        | CommandOption::Palette
+        | CommandOption::Icc
+        | CommandOption::LinkedIcc
+        | CommandOption::Out
+        | CommandOption::Read
+        | CommandOption::Edges
+        | CommandOption::Lows
+        | CommandOption::Highs => unless(!value.is_empty(), Fault::NoValue),
+        _ => Some(Fault::UnknownOption),
     }
-    if option > HIGHS {
-        return UNKNOWN_OPTION;
-    }
-    unless(name.len() > 0, NO_VALUE)
-}
-
-// What is wrong with an option's value, by number.
-fn fault_of(option: usize, value: &[u8]) -> usize
-    ensures { result ≡ fault_of option value.now }
-{
-    if option == FORMAT {
-        return unless(is_format(value), UNKNOWN_FORMAT);
-    }
-    if either(
-        option == WIDTH,
-        either(option == HEIGHT, option == RENDERING_INTENT),
-    ) {
-        return unless(is_number32(value), NO_NUMBER);
-    }
-    if option == STRIDE {
-        return unless(is_number(value), NO_STRIDE);
-    }
-    if option == BITFIELDS {
-        return unless(are_masks(value), NOT_MASKS);
-    }
-    if option == CALIBRATED_RGB {
-        return unless(are_numbers(value, 12, 9), NOT_CALIBRATED);
-    }
-    if option == LIMIT {
-        return unless(is_number(value), NO_LIMIT);
-    }
-    if option == PELS {
-        return unless(are_numbers(value, 2, 2), NO_PELS);
-    }
-    fault_of_name(option, value)
 }
 
 // What is wrong with an option that stands alone.
-fn fault_alone(option: usize, valued: bool, followed: bool) -> usize
-    ensures { result ≡ fault_alone option valued followed }
+fn fault_alone(option: CommandOption, valued: bool, followed: bool) -> Option<Fault>
+    ensures { result ≡ fault_alone (place_of option) valued followed }
 {
     if valued {
-        return TAKES_NO_VALUE;
-    }
-    if both(option == END_OF_OPTIONS, followed) {
-        return WORD_BEHIND;
-    }
-    UNDERSTOOD
-}
-
-// What is wrong with an option that no word follows.
-fn fault_last(option: usize) -> usize
-    ensures { result ≡ fault_last option }
-{
-    if option <= HIGHS {
-        NO_VALUE
+        Some(Fault::TakesNoValue)
+    } else if option == CommandOption::EndOfOptions && followed {
+        Some(Fault::WordBehind)
     } else {
-        UNKNOWN_OPTION
+        None
     }
 }
 
-// What is wrong with the option at a place, by number.
-pub fn fault_at(words: &[u8], at: usize) -> usize
+// What is wrong with the option at a place.
+pub fn fault_at(words: &[u8], at: usize) -> Option<Fault>
     requires { at ≤ length words.now }
     ensures { result ≡ fault_at (words_of (drop at words.now)) }
 {
     let given = word(words, at);
-    let option = option_named(given);
     let next = after_word(words, at);
+    let Some(option) = option_named(given) else {
+        return Some(Fault::UnknownOption);
+    };
     if stands_alone(option) {
-        return fault_alone(option, carries_value(given), next < words.len());
+        fault_alone(option, carries_value(given), next < words.len())
+    } else if carries_value(given) {
+        fault_of(option, carried(given))
+    } else if next < words.len() {
+        fault_of(option, word(words, next))
+    } else {
+        Some(Fault::NoValue)
     }
-    if carries_value(given) {
-        return fault_of(option, carried(given));
-    }
-    if next >= words.len() {
-        return fault_last(option);
-    }
-    fault_of(option, word(words, next))
 }
 
-// The place of the first option that is not understood; past the words where there is none.
-pub fn first_fault(words: &[u8]) -> usize
-    ensures { words_of (drop result words.now) ≡ first_fault (words_of words.now) }
+// The place of the first option that is not understood.
+pub fn first_fault(words: &[u8]) -> Option<usize>
+    ensures { MatchOption result (first_fault (words_of words.now) ≡ []) (λ at. (at < length words.now) × (words_of (drop at words.now) ≡ first_fault (words_of words.now))) }
 {
     let mut at = 0;
     while at < words.len() {
-        if fault_at(words, at) != UNDERSTOOD {
-            return at;
+        if fault_at(words, at).is_some() {
+            return Some(at);
         }
         at = after_option(words, at);
     }
-    at
+    None
 }
 
 // ---- what options that are understood say
@@ -344,11 +324,11 @@ fn row_bytes(width: u32, format: BmpPixelFormat) -> usize
 }
 
 // An option's number, or the usual one where it is not given.
-fn number_asked(words: &[u8], option: usize, usual: u64) -> u64
-    ensures { result ≡ number_asked option usual (words_of words.now) }
+fn number_asked(words: &[u8], option: CommandOption, usual: u64) -> u64
+    ensures { result ≡ number_asked (place_of option) usual (words_of words.now) }
 {
     if is_given(words, option) {
-        return number(value_of(words, option));
+        return number(value_of(words, option)).unwrap_or(NO_NUMBER);
     }
     usual
 }
@@ -357,43 +337,47 @@ fn number_asked(words: &[u8], option: usize, usual: u64) -> u64
 fn stride(words: &[u8], width: u32, format: BmpPixelFormat) -> usize
     ensures { result ≡ stride_asked (words_of words.now) width format }
 {
-    number_asked(words, STRIDE, row_bytes(width, format) as u64) as usize
+    number_asked(
+        words,
+        CommandOption::Stride,
+        row_bytes(width, format) as u64,
+    ) as usize
 }
 
 // The plane's layout; Pal8 where none is given.
 pub fn format_asked(words: &[u8]) -> BmpPixelFormat
     ensures { result ≡ format_asked (words_of words.now) }
 {
-    format_named(value_of(words, FORMAT))
+    format_called(value_of(words, CommandOption::Format)).unwrap_or(BmpPixelFormat::Pal8)
 }
 
 // A palette from a file, or the sample's.
 pub fn has_palette(words: &[u8]) -> bool
     ensures { result ≡ has_palette_of (words_of words.now) }
 {
-    either(is_given(words, PALETTE), is_given(words, SAMPLE_PALETTE))
+    is_given(words, CommandOption::Palette) || is_given(words, CommandOption::SamplePalette)
 }
 
 pub fn source_asked(words: &[u8]) -> EncodeSource
     ensures { result ≡ source_asked (words_of words.now) }
 {
     let format = format_asked(words);
-    let width = number32(value_of(words, WIDTH));
+    let width = number32(value_of(words, CommandOption::Width)).unwrap_or(0);
     EncodeSource {
         format,
         width,
-        height: number32(value_of(words, HEIGHT)),
+        height: number32(value_of(words, CommandOption::Height)).unwrap_or(0),
         stride: stride(words, width, format),
         has_palette: has_palette(words),
-        has_icc: is_given(words, ICC),
-        has_linked_icc: is_given(words, LINKED_ICC),
+        has_icc: is_given(words, CommandOption::Icc),
+        has_linked_icc: is_given(words, CommandOption::LinkedIcc),
     }
 }
 
 fn mask(list: &[u8], k: usize) -> u32
-    ensures { result ≡ number32 (item_at (items_of 44 list.now) k) }
+    ensures { result ≡ unwrap_or (number32 (item_at (items_of 44 list.now) k)) 0 }
 {
-    number32(item(list, k, b','))
+    number32(item(list, k, b',')).unwrap_or(0)
 }
 
 fn masks_asked(list: &[u8]) -> BmpBitfields
@@ -404,15 +388,15 @@ fn masks_asked(list: &[u8]) -> BmpBitfields
     let blue = mask(list, 3);
     let alpha = mask(list, 4);
     BmpBitfields {
-        bpp: number16(item(list, 0, b',')),
+        bpp: number16(item(list, 0, b',')).unwrap_or(0),
         masks: [red, green, blue, alpha],
     }
 }
 
 fn endpoint(list: &[u8], k: usize) -> i32
-    ensures { result ≡ signed32 (item_at (items_of 44 list.now) k) }
+    ensures { result ≡ unwrap_or (signed32 (item_at (items_of 44 list.now) k)) (pos 0) }
 {
-    signed32(item(list, k, b','))
+    signed32(item(list, k, b',')).unwrap_or(0)
 }
 
 fn calibrated_asked(list: &[u8]) -> CalibratedRgb
@@ -441,8 +425,8 @@ fn calibrated_asked(list: &[u8]) -> CalibratedRgb
 fn intent(words: &[u8]) -> u32
     ensures { result ≡ intent_asked (words_of words.now) }
 {
-    if is_given(words, RENDERING_INTENT) {
-        return number32(value_of(words, RENDERING_INTENT));
+    if is_given(words, CommandOption::RenderingIntent) {
+        return number32(value_of(words, CommandOption::RenderingIntent)).unwrap_or(0);
     }
     LCS_GM_IMAGES
 }
@@ -451,8 +435,8 @@ fn intent(words: &[u8]) -> u32
 fn pels(words: &[u8], k: usize) -> i32
     ensures { result ≡ pels_asked k (words_of words.now) }
 {
-    if is_given(words, PELS) {
-        return signed32(item(value_of(words, PELS), k, b','));
+    if is_given(words, CommandOption::Pels) {
+        return endpoint(value_of(words, CommandOption::Pels), k);
     }
     PELS_PER_METER
 }
@@ -460,19 +444,17 @@ fn pels(words: &[u8], k: usize) -> i32
 pub fn options_asked(words: &[u8]) -> EncodeOptions
     ensures { result ≡ options_asked (words_of words.now) }
 {
-    let bitfields = masks_asked(value_of(words, BITFIELDS));
-    let calibrated_rgb = calibrated_asked(value_of(words, CALIBRATED_RGB));
+    let bitfields = masks_asked(value_of(words, CommandOption::Bitfields));
+    let calibrated_rgb = calibrated_asked(value_of(words, CommandOption::Calibrated));
     EncodeOptions {
-        top_down: is_given(words, TOP_DOWN),
-        minimal_palette: is_given(words, MINIMAL_PALETTE),
-        rle: !is_given(words, NO_RLE),
-        has_bitfields: is_given(words, BITFIELDS),
-        bitfields,
-        embed_icc: !is_given(words, NO_EMBED_ICC),
+        top_down: is_given(words, CommandOption::TopDown),
+        minimal_palette: is_given(words, CommandOption::MinimalPalette),
+        rle: !is_given(words, CommandOption::NoRle),
+        bitfields: is_given(words, CommandOption::Bitfields).then_some(bitfields),
+        embed_icc: !is_given(words, CommandOption::NoEmbedIcc),
         rendering_intent: intent(words),
-        has_calibrated_rgb: is_given(words, CALIBRATED_RGB),
-        calibrated_rgb,
-        limit: number_asked(words, LIMIT, MAX_FILE),
+        calibrated_rgb: is_given(words, CommandOption::Calibrated).then_some(calibrated_rgb),
+        limit: number_asked(words, CommandOption::Limit, MAX_FILE),
         x_pels_per_meter: pels(words, 0),
         y_pels_per_meter: pels(words, 1),
     }

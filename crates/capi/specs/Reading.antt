@@ -1,12 +1,10 @@
 -- The reader's answers as the interface's structs, and what its functions promise.
 use Rattle.std.specs.Prelude.{ℕ, ◌≡◌, List}
-use Rattle.reader.specs.declared.read.Reading.{Reading}
-use Rattle.reader.specs.declared.read.ReadingSizes.{ReadingSizes}
-use Rattle.reader.specs.Answers.{Read}
+use Rattle.reader.specs.Answers.{ReadAnswer, SizesAnswer, Read}
 use Rattle.capi.specs.declared.BmpReading.{BmpReading}
 use Rattle.capi.specs.declared.BmpReadingSizes.{BmpReadingSizes}
 
-abbrev pub reading_answer : Reading → BmpReading
+abbrev pub reading_answer : ReadAnswer → BmpReading
 reading_answer r =
     record {
       profile_at = r.profile_at;
@@ -17,7 +15,7 @@ reading_answer r =
       depth = r.depth;
     }
 
-abbrev pub sizes_answer : ReadingSizes → BmpReadingSizes
+abbrev pub sizes_answer : SizesAnswer → BmpReadingSizes
 sizes_answer s =
     record {
       head_bytes = s.head_bytes;
@@ -31,6 +29,6 @@ sizes_answer s =
 
 -- a reading with its whole promise, and the same as a struct
 pub record ReadPromise (file head table cells later_head later_table later_cells : List ℕ) (answer : BmpReading) : Type 0 where
-  pub reading : Reading
+  pub reading : ReadAnswer
   pub promise : Read file head table cells later_head later_table later_cells reading
   pub same : answer ≡ reading_answer reading

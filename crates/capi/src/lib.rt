@@ -6,21 +6,23 @@ ghost use Rattle.std.specs.Prelude.{◌≡◌, [], ◌∷◌};
 ghost use Rattle.leaves.specs.Masks.{bitfields_rows};
 ghost use Rattle.leaves.specs.Refusals.{first_number, first_applying};
 ghost use Rattle.reader.specs.Refusals.{open_rows};
-ghost use Rattle.reader.specs.Answers.{sizes_for};
+ghost use Rattle.reader.specs.Answers.{sizes_answered, sizes_for, answered};
 ghost use Rattle.reader.specs.OneRow.{ReadRow};
 ghost use Rattle.grids.specs.Scale.{Shaded};
-ghost use Rattle.capi.specs.Interface.{format_at, default_settings, source_of, options_of, encoded_answer, bound_answer, EncodePromise, StartsPromise, BoundPromise};
+ghost use Rattle.capi.specs.Interface.{format_at, default_settings, source_of, options_of, refused_with, encoded_answer, bound_answer, EncodePromise, StartsPromise, BoundPromise};
 ghost use Rattle.capi.specs.Reading.{reading_answer, sizes_answer, ReadPromise};
 
 use grids::scale::shade_quotes;
 use leaves::bitfields::{BmpBitfields, validate};
 use leaves::encoder::EncodeSource;
+use leaves::error::Refusal;
 use leaves::image::BmpPixelFormat;
 use leaves::options::{CalibratedRgb, EncodeOptions};
 use leaves::types::{MAX_FILE, PELS_PER_METER};
 use planner::encoder::{Encoded, encode_into, encode_with_starts};
-use planner::plan::{SizeBound, encoded_size_bound};
+use planner::plan::encoded_size_bound;
 use reader::read::{Reading, ReadingSizes, read, read_sizes};
+use reader::refusal::ReadRefusal;
 use reader::row::read_row;
 
 // 76 bytes.
@@ -78,29 +80,26 @@ pub struct BmpAnswer {
     pub format: u32,
 }
 
-// What a caller's format number means.
-#[derive(Clone, Copy)]
-pub enum SourceFormat {
-    Known(BmpPixelFormat),
-    Unknown,
-}
+// The refusal of a format number that is not listed.
+const UNKNOWN_FORMAT: u32 = 255;
 
+// What a caller's format number means.
 #[tactic(auto, unfolding(crate::specs::Interface::format_at, crate::specs::Interface::formats))]
-fn format_at(format: u32) -> SourceFormat
+fn format_at(format: u32) -> Option<BmpPixelFormat>
     ensures { result ≡ format_at format }
 {
     match format {
-        0 => SourceFormat::Known(BmpPixelFormat::Rgba),
-        1 => SourceFormat::Known(BmpPixelFormat::Rgb24),
-        2 => SourceFormat::Known(BmpPixelFormat::Bgra),
-        3 => SourceFormat::Known(BmpPixelFormat::Bgr24),
-        4 => SourceFormat::Known(BmpPixelFormat::Rgb555),
-        5 => SourceFormat::Known(BmpPixelFormat::Rgb565),
-        6 => SourceFormat::Known(BmpPixelFormat::Pal8),
-        7 => SourceFormat::Known(BmpPixelFormat::Indexed4),
-        8 => SourceFormat::Known(BmpPixelFormat::Indexed2),
-        9 => SourceFormat::Known(BmpPixelFormat::Indexed1),
-        _ => SourceFormat::Unknown,
+        0 => Some(BmpPixelFormat::Rgba),
+        1 => Some(BmpPixelFormat::Rgb24),
+        2 => Some(BmpPixelFormat::Bgra),
+        3 => Some(BmpPixelFormat::Bgr24),
+        4 => Some(BmpPixelFormat::Rgb555),
+        5 => Some(BmpPixelFormat::Rgb565),
+        6 => Some(BmpPixelFormat::Pal8),
+        7 => Some(BmpPixelFormat::Indexed4),
+        8 => Some(BmpPixelFormat::Indexed2),
+        9 => Some(BmpPixelFormat::Indexed1),
+        _ => None,
     }
 }
 
@@ -133,12 +132,10 @@ fn options_of(options: BmpOptions, settings: BmpSettings) -> EncodeOptions
         top_down: options.top_down,
         minimal_palette: options.minimal_palette,
         rle: options.rle,
-        has_bitfields: options.has_bitfields,
-        bitfields,
+        bitfields: options.has_bitfields.then_some(bitfields),
         embed_icc: options.embed_icc,
         rendering_intent: options.rendering_intent,
-        has_calibrated_rgb: options.has_calibrated,
-        calibrated_rgb,
+        calibrated_rgb: options.has_calibrated.then_some(calibrated_rgb),
         limit: settings.limit,
         x_pels_per_meter: settings.x_pels_per_meter,
         y_pels_per_meter: settings.y_pels_per_meter,
@@ -156,38 +153,41 @@ fn default_settings() -> BmpSettings
     }
 }
 
-// An answer of the writing call as numbers.
-fn encode_answer(answer: Encoded) -> BmpAnswer
-    ensures { result ≡ encoded_answer answer }
+// A refusal as numbers.
+fn refused(number: u32) -> BmpAnswer
+    ensures { result ≡ refused_with number }
 {
-    match answer {
-        Encoded::File(format, bytes) => BmpAnswer {
-            bytes: bytes as u64,
-            refusal: 0,
-            format: format.number(),
-        },
-        Encoded::Refused(why) => BmpAnswer {
-            bytes: 0,
-            refusal: why.number(),
-            format: 0,
-        },
+    BmpAnswer {
+        bytes: 0,
+        refusal: number,
+        format: 0,
     }
 }
 
-fn bound_answer(answer: SizeBound) -> BmpAnswer
+// An answer of the writing call as numbers.
+fn encode_answer(answer: Result<Encoded, Refusal>) -> BmpAnswer
+    ensures { result ≡ encoded_answer answer }
+{
+    match answer {
+        Ok(file) => BmpAnswer {
+            bytes: file.bytes as u64,
+            refusal: 0,
+            format: file.format.number(),
+        },
+        Err(why) => refused(why.number()),
+    }
+}
+
+fn bound_answer(answer: Result<usize, Refusal>) -> BmpAnswer
     ensures { result ≡ bound_answer answer }
 {
     match answer {
-        SizeBound::Bytes(bytes) => BmpAnswer {
+        Ok(bytes) => BmpAnswer {
             bytes: bytes as u64,
             refusal: 0,
             format: 0,
         },
-        SizeBound::Refused(why) => BmpAnswer {
-            bytes: 0,
-            refusal: why.number(),
-            format: 0,
-        },
+        Err(why) => refused(why.number()),
     }
 }
 
@@ -206,13 +206,8 @@ pub extern "C" fn bmp_encode_into_with<'a>(
 ) -> BmpAnswer
     ensures { EncodePromise (format_at source.format) source options settings plane.now palette.now icc.now linked_icc.now offset out.old out.new result }
 {
-    let named = format_at(source.format);
-    let SourceFormat::Known(format) = named else {
-        return BmpAnswer {
-            bytes: 0,
-            refusal: 255,
-            format: 0,
-        };
+    let Some(format) = format_at(source.format) else {
+        return refused(UNKNOWN_FORMAT);
     };
     let src = source_of(source, format);
     let chosen = options_of(options, settings);
@@ -256,13 +251,8 @@ pub extern "C" fn bmp_encode_with_starts<'a>(
 ) -> BmpAnswer
     ensures { StartsPromise (format_at source.format) source options settings plane.now palette.now icc.now linked_icc.now offset out.old out.new starts.old starts.new result }
 {
-    let named = format_at(source.format);
-    let SourceFormat::Known(format) = named else {
-        return BmpAnswer {
-            bytes: 0,
-            refusal: 255,
-            format: 0,
-        };
+    let Some(format) = format_at(source.format) else {
+        return refused(UNKNOWN_FORMAT);
     };
     let src = source_of(source, format);
     let chosen = options_of(options, settings);
@@ -285,13 +275,8 @@ pub extern "C" fn bmp_encoded_size_bound_with<'a>(
 ) -> BmpAnswer
     ensures { BoundPromise (format_at source.format) source options settings plane.now palette.now icc.now linked_icc.now result }
 {
-    let named = format_at(source.format);
-    let SourceFormat::Known(format) = named else {
-        return BmpAnswer {
-            bytes: 0,
-            refusal: 255,
-            format: 0,
-        };
+    let Some(format) = format_at(source.format) else {
+        return refused(UNKNOWN_FORMAT);
     };
     let src = source_of(source, format);
     let chosen = options_of(options, settings);
@@ -321,8 +306,10 @@ pub extern "C" fn bmp_check_masks(bpp: u16, red: u32, green: u32, blue: u32, alp
     ensures { result ≡ first_number (bitfields_rows bpp (red ∷ green ∷ blue ∷ alpha ∷ [])) }
 {
     let masks = [red, green, blue, alpha];
-    let check = validate(bpp, masks);
-    check.number()
+    match validate(bpp, masks) {
+        Ok(()) => 0,
+        Err(why) => why.number(),
+    }
 }
 
 // 32 bytes.
@@ -354,30 +341,52 @@ pub struct BmpReadingSizes {
     pub depth: u32,
 }
 
-fn reading_answer(r: Reading) -> BmpReading
-    ensures { result ≡ reading_answer r }
+// An answer of the reader as numbers.
+fn reading_answer(answer: Result<Reading, ReadRefusal>) -> BmpReading
+    ensures { result ≡ reading_answer (answered answer) }
 {
-    BmpReading {
-        profile_at: r.profile_at as u64,
-        profile_bytes: r.profile_bytes as u64,
-        refusal: r.refusal,
-        width: r.width,
-        height: r.height,
-        depth: r.depth,
+    match answer {
+        Ok(reading) => BmpReading {
+            profile_at: reading.profile_at as u64,
+            profile_bytes: reading.profile_bytes as u64,
+            refusal: 0,
+            width: reading.width,
+            height: reading.height,
+            depth: reading.depth,
+        },
+        Err(why) => BmpReading {
+            profile_at: 0,
+            profile_bytes: 0,
+            refusal: why.number(),
+            width: 0,
+            height: 0,
+            depth: 0,
+        },
     }
 }
 
-fn sizes_answer(s: ReadingSizes) -> BmpReadingSizes
-    ensures { result ≡ sizes_answer s }
+fn sizes_answer(answer: Result<ReadingSizes, ReadRefusal>) -> BmpReadingSizes
+    ensures { result ≡ sizes_answer (sizes_answered answer) }
 {
-    BmpReadingSizes {
-        head_bytes: s.head_bytes as u64,
-        table_bytes: s.table_bytes as u64,
-        cell_numbers: s.cell_numbers as u64,
-        refusal: s.refusal,
-        width: s.width,
-        height: s.height,
-        depth: s.depth,
+    match answer {
+        Ok(sizes) => BmpReadingSizes {
+            head_bytes: sizes.head_bytes as u64,
+            table_bytes: sizes.table_bytes as u64,
+            cell_numbers: sizes.cell_numbers as u64,
+            refusal: 0,
+            width: sizes.width,
+            height: sizes.height,
+            depth: sizes.depth,
+        },
+        Err(why) => BmpReadingSizes {
+            head_bytes: 0,
+            table_bytes: 0,
+            cell_numbers: 0,
+            refusal: why.number(),
+            width: 0,
+            height: 0,
+            depth: 0,
+        },
     }
 }
 
@@ -410,7 +419,10 @@ pub extern "C" fn bmp_read_sizes(file: &[u8]) -> BmpReadingSizes
 pub extern "C" fn bmp_read_row(file: &[u8], start: u64, cells: &mut [u32]) -> u32
     ensures { ReadRow file.now start cells.old cells.new result }
 {
-    read_row(file, start, cells)
+    match read_row(file, start, cells) {
+        Ok(()) => 0,
+        Err(why) => why.number(),
+    }
 }
 
 // Paints the quotes of two lists into the plane, an index a cell, and answers 0; or changes nothing and answers 15, 22 or
@@ -424,5 +436,8 @@ pub extern "C" fn bmp_shade_quotes(
 ) -> u32
     ensures { Shaded edges.now lows.now highs.now plane.old plane.new result }
 {
-    shade_quotes(edges, lows, highs, plane)
+    match shade_quotes(edges, lows, highs, plane) {
+        Ok(()) => 0,
+        Err(why) => why.number(),
+    }
 }

@@ -27,10 +27,6 @@ pub the_second : {A B : Type 0} → A ⊎ B → (A → ⊥) → B
 the_second (inl a) h = absurd (h a)
 the_second (inr b) h = b
 
-pub the_first : {A B : Type 0} → A ⊎ B → (B → ⊥) → A
-the_first (inl a) h = a
-the_first (inr b) h = absurd (h b)
-
 -- ---- lists by places, continued by another
 
 module _ {was : List ℕ} {to : ℕ} where

@@ -2,12 +2,12 @@
 use mathlib.Core.Path.{◌≡◌, refl, sym, ap, ◌∙◌}
 use mathlib.Core.Bool.{true, false, true≢false}
 use mathlib.Core.List.{List, [], ◌∷◌}
+use Rattle.std.specs.Prelude.{None, Some}
 use Prim.Native.Nat.{ℕ, zero, suc, ◌+◌, ◌-◌, ◌*◌, ◌/◌, ◌%◌, ◌≤◌, ◌<◌}
 use native.Mathlib.Numerals.{add-one}
 use native.Mathlib.Decide.{dec_lt}
 use native.Mathlib.Omega.{arith}
-use borrow.Author.Tests.{lt-ltb, le-ltb, ne_eqb}
-use lib.Dec.{eqb}
+use borrow.Author.Tests.{lt-ltb, le-ltb}
 use lib.ListN.{length, get_or, drop, length-drop}
 use lib.Seq.{drop-cons}
 use Rattle.leaves.specs.Lists.{tab}
@@ -30,22 +30,25 @@ few_bytes d room [] h = refl
 few_bytes d room (b ∷ []) h = refl
 few_bytes d room (b ∷ c ∷ bs) h = absurd (omega arith)
 
--- a refused code has no cell
-pub none_of : (d : Decoded) → is_refused d ≡ true → record { cells = 0; bytes = 0 } ≡ code_of d
+-- a refused code is none
+pub none_of : (d : Decoded) → is_refused d ≡ true → None ≡ code_of d
 none_of (filled cells taken) e = absurd (true≢false (sym e))
 none_of (refused cause) e = refl
 
 module _ (file : List ℕ) (at d room : ℕ) where
-  pub refused_short : (rest : ℕ) → rest ≡ length file - at → rest < 2 → is_refused (read_code d room (drop at file)) ≡ true
-  refused_short rest e h = few_bytes d room (drop at file) (omega (arith, e, length-drop at file))
+  pub refused_short : length file - at < 2 → is_refused (read_code d room (drop at file)) ≡ true
+  refused_short h = few_bytes d room (drop at file) (omega (arith, length-drop at file))
+
+  abbrev first : ℕ
+  first = get_or file at 0
+
+  abbrev second : ℕ
+  second = get_or file (at + 1) 0
 
   -- two bytes are there
-  module _ (rest first second : ℕ) (some : 0 < room) (e : rest ≡ length file - at) (h : 2 ≤ rest) (f : first ≡ get_or file at 0) (s : second ≡ get_or file (at + 1) 0) where
-    pub there : at + 1 < length file
-    there = omega (arith, e)
-
+  module _ (some : 0 < room) (there : at + 1 < length file) where
     bytes : drop at file ≡ first ∷ second ∷ drop (at + 2) file
-    bytes = rw (f, s) (two_bytes file at there)
+    bytes = two_bytes file at there
 
     pair_code : (n v : ℕ) (bs : List ℕ) → 0 < n → n ≤ room → read_code d room (n ∷ v ∷ bs) ≡ filled (tab (pair_cell d v) n) 2
     unfolding read_code
@@ -55,7 +58,7 @@ module _ (file : List ℕ) (at d room : ℕ) where
     pub pair_is : (first ≡ 0 → ⊥) → first ≤ room → read_code d room (drop at file) ≡ filled (tab (pair_cell d second) first) 2
     pair_is z l = ap (read_code d room) bytes ∙ pair_code first second (drop (at + 2) file) (omega (arith, z)) l
 
-    pub pair_told : (first ≡ 0 → ⊥) → first ≤ room → record { cells = first; bytes = 2 } ≡ code_of (read_code d room (drop at file))
+    pub pair_told : (first ≡ 0 → ⊥) → first ≤ room → Some (record { cells = first; bytes = 2 }) ≡ code_of (read_code d room (drop at file))
     pair_told z l = rw (pair_is z l, length-tab (pair_cell d second) first)
 
     over_code : (n v : ℕ) (bs : List ℕ) → room < n → is_refused (read_code d room (n ∷ v ∷ bs)) ≡ true
@@ -69,7 +72,7 @@ module _ (file : List ℕ) (at d room : ℕ) where
     -- an escape
     module _ (z : first ≡ 0) where
       escape : drop at file ≡ 0 ∷ second ∷ drop (at + 2) file
-      escape = rw (← z) bytes
+      escape = bytes ∙ ap (λ (n : ℕ). n ∷ second ∷ drop (at + 2) file) z
 
       small_code : (r n : ℕ) (bs : List ℕ) → 0 < r → n < 3 → is_refused (read_code d r (0 ∷ n ∷ bs)) ≡ true
       unfolding read_code
@@ -99,9 +102,9 @@ module _ (file : List ℕ) (at d room : ℕ) where
       cut_code (suc (suc zero)) bs p q l = absurd (omega arith)
       cut_code (suc (suc (suc n))) bs p q l = rw (le-ltb room (suc (suc (suc n))) q, lt-ltb (length bs * 8) (suc (suc (suc n)) * d) l)
 
-      pub escape_cut : (k : ℕ) → k ≡ (second * d + 7) / 8 → 2 < second → second ≤ room → rest - 2 < k → is_refused (read_code d room (drop at file)) ≡ true
+      pub escape_cut : (k : ℕ) → k ≡ (second * d + 7) / 8 → 2 < second → second ≤ room → length file - at - 2 < k → is_refused (read_code d room (drop at file)) ≡ true
       escape_cut k q p l j =
-          ap (λ (b : List ℕ). is_refused (read_code d room b)) escape ∙ cut_code second (drop (at + 2) file) p l (omega (arith, q, e, length-drop (at + 2) file))
+          ap (λ (b : List ℕ). is_refused (read_code d room b)) escape ∙ cut_code second (drop (at + 2) file) p l (omega (arith, q, length-drop (at + 2) file))
 
       block_code : (n : ℕ) (bs : List ℕ) → 2 < n → n ≤ room → n * d ≤ length bs * 8 → read_code d room (0 ∷ n ∷ bs) ≡ filled (tab (cell_at d bs) n) (suc (suc (data_read d n)))
       unfolding read_code
@@ -110,14 +113,14 @@ module _ (file : List ℕ) (at d room : ℕ) where
       block_code (suc (suc zero)) bs p q l = absurd (omega arith)
       block_code (suc (suc (suc n))) bs p q l = rw (le-ltb room (suc (suc (suc n))) q, le-ltb (length bs * 8) (suc (suc (suc n)) * d) l)
 
-      module _ (k : ℕ) (q : k ≡ (second * d + 7) / 8) (p : 2 < second) (l : second ≤ room) (j : k ≤ rest - 2) where
+      module _ (k : ℕ) (q : k ≡ (second * d + 7) / 8) (p : 2 < second) (l : second ≤ room) (j : k ≤ length file - at - 2) where
         pub block_is : read_code d room (drop at file) ≡ filled (tab (cell_at d (drop (at + 2) file)) second) (2 + k + k % 2)
         unfolding data_read
         block_is =
             let n : suc (suc (data_read d second)) ≡ 2 + k + k % 2 = omega (arith, q) in
-            ap (read_code d room) escape ∙ block_code second (drop (at + 2) file) p l (omega (arith, q, e, length-drop (at + 2) file)) ∙ ap (filled (tab (cell_at d (drop (at + 2) file)) second)) n
+            ap (read_code d room) escape ∙ block_code second (drop (at + 2) file) p l (omega (arith, q, length-drop (at + 2) file)) ∙ ap (filled (tab (cell_at d (drop (at + 2) file)) second)) n
 
-        pub block_told : record { cells = second; bytes = 2 + k + k % 2 } ≡ code_of (read_code d room (drop at file))
+        pub block_told : Some (record { cells = second; bytes = 2 + k + k % 2 }) ≡ code_of (read_code d room (drop at file))
         block_told = rw (block_is, length-tab (cell_at d (drop (at + 2) file)) second)
 
     -- the other way round: what is known of a code that is not refused
@@ -134,28 +137,14 @@ module _ (file : List ℕ) (at d room : ℕ) where
       pub good_room : first ≡ 0 → second ≤ room
       good_room z = elim (dec_lt room second) [ yes l ↦ absurd (never (escape_over z (good_long z) l)) | no l ↦ omega arith ]
 
-      pub good_data : first ≡ 0 → (second * d + 7) / 8 ≤ rest - 2
-      good_data z = elim (dec_lt (rest - 2) ((second * d + 7) / 8)) [ yes l ↦ absurd (never (escape_cut z ((second * d + 7) / 8) refl (good_long z) (good_room z) l)) | no l ↦ omega arith ]
+      pub good_data : first ≡ 0 → (second * d + 7) / 8 ≤ length file - at - 2
+      good_data z = elim (dec_lt (length file - at - 2) ((second * d + 7) / 8)) [ yes l ↦ absurd (never (escape_cut z ((second * d + 7) / 8) refl (good_long z) (good_room z) l)) | no l ↦ omega arith ]
 
-pub good_there : (file : List ℕ) (at d room : ℕ) → is_refused (read_code d room (drop at file)) ≡ false → 2 ≤ length file - at
+pub good_there : (file : List ℕ) (at d room : ℕ) → is_refused (read_code d room (drop at file)) ≡ false → at + 1 < length file
 good_there file at d room good =
-    elim (dec_lt (length file - at) 2) [ yes l ↦ absurd (true≢false (sym (refused_short file at d room (length file - at) refl l) ∙ good)) | no l ↦ omega arith ]
+    elim (dec_lt (length file - at) 2) [ yes l ↦ absurd (true≢false (sym (refused_short file at d room l) ∙ good)) | no l ↦ omega arith ]
 
 -- ---- the end of a row
-
-pub ends_short : (bs : List ℕ) → length bs < 2 → false ≡ marks_end bs
-ends_short [] h = refl
-ends_short (b ∷ []) h = refl
-ends_short (b ∷ c ∷ bs) h = absurd (omega arith)
-
-pub ends_told : (a b : ℕ) (bs : List ℕ) → a ≡ 0 → eqb b 0 ≡ marks_end (a ∷ b ∷ bs)
-ends_told zero zero bs e = refl
-ends_told zero (suc b) bs e = ne_eqb (suc b) 0 (λ z. omega arith)
-ends_told (suc a) b bs e = absurd (omega arith)
-
-pub ends_not : (a b : ℕ) (bs : List ℕ) → (a ≡ 0 → ⊥) → false ≡ marks_end (a ∷ b ∷ bs)
-ends_not zero b bs z = absurd (z refl)
-ends_not (suc a) b bs z = refl
 
 pub marked : (bs : List ℕ) → marks_end bs ≡ true → bs ≡ 0 ∷ 0 ∷ drop 2 bs
 marked [] e = absurd (true≢false (sym e))

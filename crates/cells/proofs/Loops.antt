@@ -5,7 +5,7 @@ use Prim.Native.Nat.{ℕ, ◌+◌, ◌*◌, ◌≤◌, ◌<◌}
 use native.Mathlib.Nat.{suc-mul, mul-le-mul_right}
 use native.Mathlib.Numerals.{add-one}
 use native.Mathlib.Omega.{arith}
-use lib.ListN.{length, set, length-set}
+use lib.ListN.{length, get_or, set, length-set}
 use Rattle.leaves.specs.Lists.{tab, cat}
 use Rattle.leaves.specs.Put.{put}
 use Rattle.leaves.proofs.ListLaws.{length-tab, length-cat}
@@ -89,6 +89,14 @@ put_four_is d at r g b a h =
     ∙ ap (λ (k : ℕ). put d3 k (a ∷ [])) three
     ∙ put-cons d3 (at + 3) a [] l3
     ∙ put-nil (set d3 (at + 3) a) (at + 3 + 1))
+
+pub quad_is : (q : List ℕ) → length q ≡ 4 → get_or q 0 0 ∷ get_or q 1 0 ∷ get_or q 2 0 ∷ get_or q 3 0 ∷ [] ≡ q
+quad_is [] e = absurd (omega arith)
+quad_is (r ∷ []) e = absurd (omega arith)
+quad_is (r ∷ g ∷ []) e = absurd (omega arith)
+quad_is (r ∷ g ∷ b ∷ []) e = absurd (omega arith)
+quad_is (r ∷ g ∷ b ∷ a ∷ []) e = refl
+quad_is (r ∷ g ∷ b ∷ a ∷ c ∷ l) e = absurd (omega arith)
 
 -- no elements
 pub no_elements : (l : List ℕ) → length l ≡ 0 → [] ≡ l

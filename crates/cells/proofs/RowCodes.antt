@@ -17,24 +17,24 @@ use Rattle.format.specs.Shown.{short, past_row_end}
 use Rattle.format.proofs.RowReading.{row_step, row_length_lem}
 use Rattle.format.proofs.StreamReading.{Both, both_read}
 use Rattle.cells.specs.declared.stream.Code.{Code}
-use Rattle.cells.specs.declared.stream.RowEnd.TheVariants.{At, Fault}
+use Rattle.std.specs.Prelude.{None, Some}
 use Rattle.cells.specs.Streams.{is_refused, cells_in, bytes_in, code_of, row_end, PutWithin}
 use Rattle.cells.proofs.Within.{within_start, within_more, within_end}
 
 -- ---- readings as they are told
 
 -- a code in a row with room fills some cell, or is refused
-abbrev Some : Decoded → Type 0
-Some (filled cells taken) = 0 < length cells
-Some (refused cause) = Unit {0}
+abbrev Filling : Decoded → Type 0
+Filling (filled cells taken) = 0 < length cells
+Filling (refused cause) = Unit {0}
 
-some_cells : (d room : ℕ) (bs : List ℕ) → Some (read_code d (suc room) bs)
+some_cells : (d room : ℕ) (bs : List ℕ) → Filling (read_code d (suc room) bs)
 unfolding read_code
 some_cells d room [] = tt
 some_cells d room (b ∷ []) = tt
 some_cells d room (suc n ∷ v ∷ bs) = go (ltb (suc room) (suc n))
   where
-    go : (t : Bool) → Some (cond t (refused past_row_end) (filled (tab (pair_cell d v) (suc n)) 2))
+    go : (t : Bool) → Filling (cond t (refused past_row_end) (filled (tab (pair_cell d v) (suc n)) 2))
     go true = tt
     go false = rw (length-tab (pair_cell d v) (suc n)) (omega arith)
 some_cells d room (zero ∷ zero ∷ bs) = tt
@@ -42,45 +42,46 @@ some_cells d room (zero ∷ suc zero ∷ bs) = tt
 some_cells d room (zero ∷ suc (suc zero) ∷ bs) = tt
 some_cells d room (zero ∷ suc (suc (suc n)) ∷ bs) = go (ltb (suc room) (suc (suc (suc n)))) (ltb (length bs * 8) (suc (suc (suc n)) * d))
   where
-    go : (t u : Bool) → Some (cond t (refused past_row_end) (cond u (refused short) (filled (tab (cell_at d bs) (suc (suc (suc n)))) (suc (suc (data_read d (suc (suc (suc n)))))))))
+    go : (t u : Bool) → Filling (cond t (refused past_row_end) (cond u (refused short) (filled (tab (cell_at d bs) (suc (suc (suc n)))) (suc (suc (data_read d (suc (suc (suc n)))))))))
     go true u = tt
     go false true = tt
     go false false = rw (length-tab (cell_at d bs) (suc (suc (suc n)))) (omega arith)
 
 end_behind : (at taken : ℕ) (cells : List ℕ) (r : Decoded) → row_end at (behind cells taken r) ≡ row_end (at + taken) r
-end_behind at taken cells (filled more n) = ap At (sym (add_assoc at taken n))
+end_behind at taken cells (filled more n) = ap Some (sym (add_assoc at taken n))
 end_behind at taken cells (refused cause) = refl
+
+inside : {A : Type 0} (a b : A) → Some a ≡ Some b → a ≡ b
+inside a b e = cc
 
 -- ---- the end of a row
 
 module _ (file : List ℕ) (d : ℕ) where
-  fault_step : (at room : ℕ) (r : Decoded) → Some r → (next : List ℕ → ℕ → Decoded) → length (cells_in r) ≡ 0 → row_end at (and_then r next) ≡ Fault
-  fault_step at room (filled cells taken) some next z = absurd (omega (arith, some, z))
-  fault_step at room (refused cause) some next z = refl
+  fault_step : (at : ℕ) (r : Decoded) (next : List ℕ → ℕ → Decoded) → None ≡ code_of r → row_end at (and_then r next) ≡ None
+  fault_step at (filled cells taken) next e = let z : ◌≡◌ {A = ℕ} 0 1 = cc in absurd (omega arith)
+  fault_step at (refused cause) next e = refl
 
-  -- no cell: the row is refused
-  pub row_fault : (at room : ℕ) (code : Code) → 0 < room → code ≡ code_of (read_code d room (drop at file)) → code.cells ≡ 0 → row_end at (read_row d room (drop at file)) ≡ Fault
-  row_fault at zero code h e z = absurd (omega arith)
-  row_fault at (suc room) code h e z =
-      ap (row_end at) (row_step d room (drop at file))
-      ∙ fault_step at room (read_code d (suc room) (drop at file)) (some_cells d room (drop at file)) _ (sym (ap (λ (k : Code). k.cells) e) ∙ z)
+  -- no code: the row is refused
+  pub row_fault : (at room : ℕ) → 0 < room → None ≡ code_of (read_code d room (drop at file)) → row_end at (read_row d room (drop at file)) ≡ None
+  row_fault at zero h e = absurd (omega arith)
+  row_fault at (suc room) h e = ap (row_end at) (row_step d room (drop at file)) ∙ fault_step at (read_code d (suc room) (drop at file)) _ e
 
-  turn_step : (at room : ℕ) (r : Decoded) (code : Code) → code ≡ code_of r → (code.cells ≡ 0 → ⊥)
+  turn_step : (at room : ℕ) (r : Decoded) (code : Code) → Some code ≡ code_of r
       → row_end at (and_then r (λ cells taken. read_row d (room - length cells) (drop taken (drop at file)))) ≡ row_end (at + code.bytes) (read_row d (room - code.cells) (drop (at + code.bytes) file))
-  turn_step at room (refused cause) code e z = absurd (z (ap (λ (k : Code). k.cells) e))
-  turn_step at room (filled cells taken) code e z =
+  turn_step at room (refused cause) code e = let z : ◌≡◌ {A = ℕ} 0 1 = cc in absurd (omega arith)
+  turn_step at room (filled cells taken) code e =
       end_behind at taken cells (read_row d (room - length cells) (drop taken (drop at file)))
-      ∙ rw (e, drop-drop taken at file)
+      ∙ rw (inside code _ e, drop-drop taken at file)
 
-  -- some: the rest of the row is behind the code
-  pub row_turn : (at room : ℕ) (code : Code) → 0 < room → code ≡ code_of (read_code d room (drop at file)) → (code.cells ≡ 0 → ⊥)
+  -- one: the rest of the row is behind it
+  pub row_turn : (at room : ℕ) (code : Code) → 0 < room → Some code ≡ code_of (read_code d room (drop at file))
       → row_end at (read_row d room (drop at file)) ≡ row_end (at + code.bytes) (read_row d (room - code.cells) (drop (at + code.bytes) file))
-  row_turn at zero code h e z = absurd (omega arith)
-  row_turn at (suc room) code h e z = ap (row_end at) (row_step d room (drop at file)) ∙ turn_step at (suc room) (read_code d (suc room) (drop at file)) code e z
+  row_turn at zero code h e = absurd (omega arith)
+  row_turn at (suc room) code h e = ap (row_end at) (row_step d room (drop at file)) ∙ turn_step at (suc room) (read_code d (suc room) (drop at file)) code e
 
   -- the row is full
-  pub row_whole : (at room : ℕ) → room ≡ 0 → row_end at (read_row d room (drop at file)) ≡ At at
-  row_whole at room e = ap (λ (k : ℕ). row_end at (read_row d k (drop at file))) e ∙ ap At (add-zero at)
+  pub row_whole : (at room : ℕ) → room ≡ 0 → row_end at (read_row d room (drop at file)) ≡ Some at
+  row_whole at room e = ap (λ (k : ℕ). row_end at (read_row d k (drop at file))) e ∙ ap Some (add-zero at)
 
 -- ---- filling in a row
 
@@ -130,10 +131,10 @@ module _ {file : List ℕ} {begin d w : ℕ} {was : List ℕ} {to : ℕ} where
     pub fill_code_good : is_refused (read_code d (w - x) (drop at file)) ≡ false
     fill_code_good = ap is_refused step.earlier
 
-    pub code_fits : (code : Code) → code ≡ code_of (read_code d (w - x) (drop at file)) → (0 < code.cells) × (code.cells ≤ w - x)
+    pub code_fits : (code : Code) → Some code ≡ code_of (read_code d (w - x) (drop at file)) → (0 < code.cells) × (code.cells ≤ w - x)
     code_fits code e =
         let q : code_of (read_code d (w - x) (drop at file)) ≡ code_of (filled step.cells step.taken) = ap code_of step.earlier in
-        let n : code.cells ≡ length step.cells = ap (λ (k : Code). k.cells) (e ∙ q) in
+        let n : code.cells ≡ length step.cells = ap (λ (k : Code). k.cells) (inside code _ (e ∙ q)) in
         let some : 0 < length step.cells = go (w - x) (omega arith) step.earlier in
         let all : length r.left ≡ w - x = row_length_lem d (w - x) (drop at file) r.rest in
         let parts : length r.left ≡ length step.cells + length step.more = ap length step.together ∙ length-append step.cells step.more in
@@ -141,14 +142,14 @@ module _ {file : List ℕ} {begin d w : ℕ} {was : List ℕ} {to : ℕ} where
       where
         go : (room : ℕ) → 0 < room → read_code d room (drop at file) ≡ filled step.cells step.taken → 0 < length step.cells
         go zero l e = absurd (omega arith)
-        go (suc room) l e = subst Some e (some_cells d room (drop at file))
+        go (suc room) l e = subst Filling e (some_cells d room (drop at file))
 
-    pub fill_turn : (code : Code) (later : List ℕ) → code ≡ code_of (read_code d (w - x) (drop at file)) → code.bytes ≤ 258 → to + w ≤ length was
+    pub fill_turn : (code : Code) (later : List ℕ) → Some code ≡ code_of (read_code d (w - x) (drop at file)) → code.bytes ≤ 258 → to + w ≤ length was
         → PutWithin cells (to + x) (cells_in (read_code d (w - x) (drop at file))) (w - x) later → RowFill file begin d w was to later (at + code.bytes) (x + code.cells)
     fill_turn code later e b room f =
         let s = step in
         let fits = code_fits code e in
-        let q : code ≡ code_of (filled s.cells s.taken) = e ∙ ap code_of s.earlier in
+        let q : code ≡ record { cells = length s.cells; bytes = s.taken } = inside code _ (e ∙ ap code_of s.earlier) in
         let n : code.cells ≡ length s.cells = ap (λ (k : Code). k.cells) q in
         let t : code.bytes ≡ s.taken = ap (λ (k : Code). k.bytes) q in
         let g : PutWithin cells (to + length r.done) s.cells (w - length r.done) later

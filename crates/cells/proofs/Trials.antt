@@ -1,6 +1,6 @@
 -- The loops over a stream's rows: the one that tries them, and the one that fills them in.
 use mathlib.Core.Path.{◌≡◌, refl, sym, ap, ◌∙◌, subst}
-use mathlib.Core.Bool.{true, false, true≢false}
+use mathlib.Core.Bool.{Bool, true, false, not, not-not, true≢false}
 use mathlib.Core.List.{List, [], ◌++◌}
 use Prim.Native.Nat.{ℕ, suc, ◌+◌, ◌-◌, ◌≤◌, ◌<◌}
 use native.Mathlib.Omega.{arith}
@@ -9,8 +9,7 @@ use lib.Seq.{drop-drop}
 use Rattle.format.specs.Decode.{Decoded, filled, refused, read_code, read_row, rows_below, decode}
 use Rattle.format.specs.Shown.{Cause}
 use Rattle.format.proofs.StreamReading.{rows_next, decode_next, rows_place, refused_row, refused_end}
-use Rattle.cells.specs.declared.stream.RowEnd.{RowEnd}
-use Rattle.cells.specs.declared.stream.RowEnd.TheVariants.{At, Fault}
+use Rattle.std.specs.Prelude.{Option, None, Some, is_some}
 use Rattle.cells.specs.Streams.{is_refused, row_end, marks_end}
 use Rattle.cells.proofs.Codes.{marked, unmarked}
 
@@ -22,20 +21,15 @@ record Ended (at end : ℕ) (r : Decoded) : Type 0 where
   is : r ≡ filled cells taken
   place : end ≡ at + taken
 
-place_of : RowEnd → ℕ
-place_of (At k) = k
-place_of Fault = 0
-
-ended : (at end : ℕ) (r : Decoded) → At end ≡ row_end at r → Ended at end r
-unfolding place_of
-ended at end (filled cells taken) e = record { cells = cells; taken = taken; is = refl; place = ap place_of e }
+ended : (at end : ℕ) (r : Decoded) → Some end ≡ row_end at r → Ended at end r
+ended at end (filled cells taken) e = record { cells = cells; taken = taken; is = refl; place = cc }
 ended at end (refused cause) e = let z : ◌≡◌ {A = ℕ} 0 1 = cc in absurd (omega arith)
 
 record Refused (r : Decoded) : Type 0 where
   cause : Cause
   is : r ≡ refused cause
 
-faulty : (at : ℕ) (r : Decoded) → Fault ≡ row_end at r → Refused r
+faulty : (at : ℕ) (r : Decoded) → None ≡ row_end at r → Refused r
 faulty at (filled cells taken) e = let z : ◌≡◌ {A = ℕ} 0 1 = cc in absurd (omega arith)
 faulty at (refused cause) e = record { cause = cause; is = refl }
 
@@ -67,12 +61,12 @@ module _ (file : List ℕ) (d w offset top : ℕ) where
     at_place = drop-drop r.place offset file ∙ ap (λ (k : ℕ). drop k file) (sym r.here)
 
     -- the row here is refused
-    pub trial_fault : Fault ≡ row_end at (read_row d w (drop at file)) → true ≡ is_refused (decode d w (drop offset file) top)
+    pub trial_fault : None ≡ row_end at (read_row d w (drop at file)) → true ≡ is_refused (decode d w (drop offset file) top)
     trial_fault e =
         let f = faulty at (read_row d w (drop at file)) e in
         sym (ap is_refused (refused_row d w (drop offset file) (top - above) top r.rows (ap (read_row d w) at_place ∙ f.is) (omega arith)))
 
-    module _ (end : ℕ) (e : At end ≡ row_end at (read_row d w (drop at file))) where
+    module _ (end : ℕ) (e : Some end ≡ row_end at (read_row d w (drop at file))) where
       row : Ended at end (read_row d w (drop at file))
       row = ended at end (read_row d w (drop at file)) e
 
@@ -101,10 +95,15 @@ module _ (file : List ℕ) (d w offset top : ℕ) where
           }
 
       -- all rows
-      pub trial_end : above ≡ 0 → false ≡ is_refused (decode d w (drop offset file) top)
+      trial_end : above ≡ 0 → false ≡ is_refused (decode d w (drop offset file) top)
       trial_end z =
           let n : top - above ≡ top = omega arith in
           sym (ap is_refused (decode_next d w (drop offset file) top (subst (λ (k : ℕ). rows_below d w (drop offset file) k ≡ filled r.below r.place) n r.rows) here_read))
+
+    -- the last row tells
+    pub trial_done : above ≡ 0 → (end : Option ℕ) → end ≡ row_end at (read_row d w (drop at file)) → (none : Bool) → is_some end ≡ not none → none ≡ is_refused (decode d w (drop offset file) top)
+    trial_done z None e none n = sym (ap not n ∙ not-not none) ∙ trial_fault e
+    trial_done z (Some end) e none n = sym (ap not n ∙ not-not none) ∙ trial_end end e z
 
 -- the end of a row lies in the file
 pub marked_inside : (file : List ℕ) (end : ℕ) → marks_end (drop end file) ≡ true → end + 2 ≤ length file

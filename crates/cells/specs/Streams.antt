@@ -1,10 +1,8 @@
 -- What is taken from a reading of codes, as the code has it.
-use Rattle.std.specs.Prelude.{ℕ, zero, suc, ◌+◌, Bool, true, false, List, [], ◌∷◌, ◌++◌, ◌≡◌, length}
+use Rattle.std.specs.Prelude.{ℕ, zero, suc, ◌+◌, Bool, true, false, List, [], ◌∷◌, ◌++◌, ◌≡◌, length, Option, None, Some}
 use Rattle.leaves.specs.Put.{put}
 use Rattle.format.specs.Decode.{Decoded, filled, refused}
 use Rattle.cells.specs.declared.stream.Code.{Code}
-use Rattle.cells.specs.declared.stream.RowEnd.{RowEnd}
-use Rattle.cells.specs.declared.stream.RowEnd.TheVariants.{At, Fault}
 
 -- whether it is refused
 abbrev pub is_refused : Decoded → Bool
@@ -21,13 +19,14 @@ bytes_in (filled cells taken) = taken
 bytes_in (refused cause) = 0
 
 -- of one code
-abbrev pub code_of : Decoded → Code
-code_of d = record { cells = length (cells_in d); bytes = bytes_in d }
+abbrev pub code_of : Decoded → Option Code
+code_of (filled cells taken) = Some (record { cells = length cells; bytes = taken })
+code_of (refused cause) = None
 
 -- where a row that begins at `at` ends
-abbrev pub row_end : ℕ → Decoded → RowEnd
-row_end at (filled cells taken) = At (at + taken)
-row_end at (refused cause) = Fault
+abbrev pub row_end : ℕ → Decoded → Option ℕ
+row_end at (filled cells taken) = Some (at + taken)
+row_end at (refused cause) = None
 
 -- 00 00, the end of a row
 abbrev pub marks_end : List ℕ → Bool

@@ -8,14 +8,15 @@ ghost use Rattle.cells.specs.Quads.{bytes_quad, number_place, channel_at, value_
 use crate::indices::{byte, widen};
 use rows::words::place_mask;
 
-fn put_four(cells: &mut [u32], at: usize, red: u32, green: u32, blue: u32, alpha: u32)
+// Red, green, blue and alpha of a cell.
+fn put_quad(cells: &mut [u32], at: usize, quad: [u32; 4])
     requires { at + 4 ≤ length cells.old }
-    ensures { cells.new ≡ put cells.old at (red ∷ green ∷ blue ∷ alpha ∷ []) }
+    ensures { cells.new ≡ put cells.old at quad }
 {
-    cells[at] = red;
-    cells[at + 1] = green;
-    cells[at + 2] = blue;
-    cells[at + 3] = alpha;
+    cells[at] = quad[0];
+    cells[at + 1] = quad[1];
+    cells[at + 2] = quad[2];
+    cells[at + 3] = quad[3];
 }
 
 // n cells of 3 or 4 bytes, blue, green, red, one by one.
@@ -25,21 +26,10 @@ fn each_cell(file: &[u8], from: usize, size: usize, n: usize, cells: &mut [u32],
     requires n_in_bounds { to + n * 4 ≤ length cells.old }
     ensures { cells.new ≡ put cells.old to (cat (bytes_quad file.now from size) n) }
 {
-    let mut x = 0;
-    let mut p = from;
-    let mut q = to;
-    while x < n {
-        put_four(
-            cells,
-            q,
-            byte(file, p + 2),
-            byte(file, p + 1),
-            byte(file, p),
-            0,
-        );
-        x += 1;
-        p += size;
-        q += 4;
+    for x in 0..n {
+        let p = from + x * size;
+        let quad = [byte(file, p + 2), byte(file, p + 1), byte(file, p), 0];
+        put_quad(cells, to + 4 * x, quad);
     }
 }
 
@@ -90,10 +80,8 @@ fn four_cells(file: &[u8], from: usize, size: usize, cells: &mut [u32], to: usiz
     ensures { cells.new ≡ put cells.old to (cat (bytes_quad file.now from size) 4) }
 {
     let mut numbers = [0u8; 16];
-    let mut k = 0;
-    while k < 16 {
+    for k in 0..16 {
         numbers[k] = byte_of_eight(file, from + k - 5, known_place(size, k));
-        k += 1;
     }
     widen(&numbers, 0, 16, cells, to);
 }
@@ -201,21 +189,14 @@ pub fn put_words(
     ensures { cells.new ≡ put cells.old to (cat (λ x. quad_under channels (cell_word depth (drop from file.now) x)) n) }
 {
     let size = depth as usize / 8;
-    let mut x = 0;
-    let mut p = from;
-    let mut q = to;
-    while x < n {
-        let word = cell_word(file, p, depth);
-        put_four(
-            cells,
-            q,
+    for x in 0..n {
+        let word = cell_word(file, from + x * size, depth);
+        let quad = [
             value_under(channels.red, word),
             value_under(channels.green, word),
             value_under(channels.blue, word),
             value_under(channels.alpha, word),
-        );
-        x += 1;
-        p += size;
-        q += 4;
+        ];
+        put_quad(cells, to + 4 * x, quad);
     }
 }

@@ -1,26 +1,79 @@
 -- What the words say, case by case.
-use mathlib.Core.Bool.{Bool, true, false, ◌||◌}
-use mathlib.Core.List.{List, []}
-use mathlib.Core.Path.{◌≡◌, sym, ap, subst, ◌∙◌}
-use Prim.Native.Nat.{ℕ, ◌+◌, ◌≤◌, ◌<◌}
-use native.Mathlib.Numerals.{add-one}
-use borrow.Author.Tests.{eq-eqb, ne_eqb}
-use lib.ListN.{length, drop}
+use mathlib.Core.Bool.{Bool, true, false, cond, ◌||◌}
+use mathlib.Core.List.{List, [], ◌∷◌, map}
+use mathlib.Core.Path.{◌≡◌, refl, sym, ap, subst, ◌∙◌}
+use Prim.Native.Nat.{ℕ, zero, suc, ◌+◌, ◌<◌}
+use native.Mathlib.Nat.{add-zero}
+use native.Mathlib.Omega.{arith}
+use lib.ListN.{length, get_or, drop}
 use Rattle.leaves.specs.Texts.{bytes_of}
-use Rattle.arguments.specs.Options.{option_names, option_named, is_none, is_given, first_fault}
+use Rattle.arguments.specs.Options.{place_of, option_names, option_named, is_none, is_given, first_fault}
 use Rattle.arguments.specs.Words.{up_to, place_among, alike, words_of}
 use Rattle.arguments.proofs.OptionLaws.{is_some}
-use Rattle.arguments.proofs.Pieces.{words_end}
 use Rattle.messages.specs.Messages.{Says}
 use Rattle.messages.proofs.MessageLaws.{says_as}
-use Rattle.command.specs.Commands.{one_given, read_fault, write_fault, fault_text_at, joint_fault, joint_text, help_text, version_text, asks_help, check_status, check_text}
+use Rattle.std.specs.Prelude.{Option, Some, None}
+use Rattle.std.specs.Bool.{then_some}
+use Rattle.std.specs.Option.{option_or}
+use Rattle.std.specs.List.{list_any, range_with_len}
+use Rattle.arguments.specs.declared.options.CommandOption.{CommandOption}
+use Rattle.command.specs.declared.check.JointFault.{JointFault}
+use Rattle.command.specs.Commands.{first_found, one_given, read_fault, write_fault, fault_text_at, joint_fault, joint_text, joint_text_of, help_text, version_text, asks_help, check_status, check_text}
 use Rattle.command.specs.Runs.{told_answer, Checked}
 use Rattle.command.specs.declared.CommandAnswer.{CommandAnswer}
 
--- one option more
-pub one_more : (ws : List (List ℕ)) (from i : ℕ) (a b r : Bool) → a ≡ one_given from i ws → b ≡ is_given (from + i) ws → r ≡ (a || b) → r ≡ one_given from (i + 1) ws
+-- ---- options by name
+
+or_assoc : (a b c : Bool) → (a || b || c) ≡ (a || (b || c))
+or_assoc true b c = refl
+or_assoc false b c = refl
+
+pub or_three : (a b c : Bool) → (a || b || c) ≡ (a || (b || c))
+or_three a b c = or_assoc a b c
+
+-- the first of some options, and the others
+one_first : (ws : List (List ℕ)) (from n : ℕ) → one_given from (suc n) ws ≡ (is_given from ws || one_given (from + 1) n ws)
 unfolding one_given
-one_more ws from i a b r p q e = rw (add-one i) (e ∙ rw (p, q))
+one_first ws from zero = rw (add-zero from) (sym (or_false (is_given from ws)))
+  where
+    or_false : (b : Bool) → (b || false) ≡ b
+    or_false true = refl
+    or_false false = refl
+one_first ws from (suc n) =
+    let place : from + suc n ≡ from + 1 + n = omega arith in
+    ap (λ (b : Bool). b || is_given (from + suc n) ws) (one_first ws from n) ∙ or_assoc (is_given from ws) (one_given (from + 1) n ws) (is_given (from + suc n) ws)
+    ∙ ap (λ (k : ℕ). is_given from ws || (one_given (from + 1) n ws || is_given k ws)) place
+
+-- whether one of options that stand in a row is given
+pub given_any : (ws : List (List ℕ)) (from : ℕ) (os : List CommandOption) → map place_of os ≡ range_with_len from (length os)
+    → list_any (λ (o : CommandOption). is_given (place_of o) ws) os ≡ one_given from (length os) ws
+unfolding one_given
+given_any ws from [] e = refl
+given_any ws from (o ∷ os) e =
+    let here : place_of o ≡ from = ap (λ (ns : List ℕ). get_or ns 0 0) e in
+    let rest : map place_of os ≡ range_with_len (from + 1) (length os) = ap (drop 1) e in
+    ap (λ (k : ℕ). is_given k ws || list_any (λ (x : CommandOption). is_given (place_of x) ws) os) here
+    ∙ ap (λ (b : Bool). is_given from ws || b) (given_any ws (from + 1) os rest)
+    ∙ sym (one_first ws from (length os))
+
+-- ---- faults one after another
+
+pub first_test : (fault : JointFault) (x : Bool) {r : Option JointFault} → r ≡ then_some x fault → r ≡ first_found None x fault
+unfolding first_found
+first_test fault x {r} e = e ∙ go x
+  where
+    go : (b : Bool) → then_some b fault ≡ cond b (Some fault) None
+    go true = refl
+    go false = refl
+
+pub next_test : (fault : JointFault) (x : Bool) {r s a b : Option JointFault} → r ≡ option_or a s → s ≡ then_some x fault → a ≡ b → r ≡ first_found b x fault
+unfolding first_found
+next_test fault x {r} {s} {a} {b} e f g = e ∙ ap (option_or a) f ∙ ap (λ (o : Option JointFault). option_or o (then_some x fault)) g ∙ go b x
+  where
+    go : (o : Option JointFault) (t : Bool) → option_or o (then_some t fault) ≡ first_found o t fault
+    go None true = refl
+    go None false = refl
+    go (Some found) t = refl
 
 -- which faults count
 pub joint_reads : (ws : List (List ℕ)) → is_given 25 ws ≡ true → read_fault ws ≡ joint_fault ws
@@ -42,13 +95,12 @@ checked {ws} {was} {later} {text} {r} {status} {n} e s t said =
     }
 
 -- a fault, and none
-module _ (text : List ℕ) (at : ℕ) (found : words_of (drop at text) ≡ first_fault (words_of text)) where
-  pub some_fault : at < length text → is_none (first_fault (words_of text)) ≡ false
-  some_fault h = ap is_none (sym found) ∙ is_some text at h
+pub some_fault : (text : List ℕ) (at : ℕ) → (at < length text) × (words_of (drop at text) ≡ first_fault (words_of text)) → is_none (first_fault (words_of text)) ≡ false
+some_fault text at found = ap is_none (sym found.1) ∙ is_some text at found.0
 
-  pub no_fault : length text ≤ at → is_none (first_fault (words_of text)) ≡ true
-  unfolding is_none
-  no_fault h = ap is_none (sym found) ∙ ap is_none (words_end text at h)
+pub no_fault : (text : List ℕ) → first_fault (words_of text) ≡ [] → is_none (first_fault (words_of text)) ≡ true
+unfolding is_none
+no_fault text e = ap is_none e
 
 module _ (ws : List (List ℕ)) where
   module _ (e : is_none (first_fault ws) ≡ false) where
@@ -83,18 +135,18 @@ module _ (ws : List (List ℕ)) where
       version_text_lem v = rw (e, h, v)
 
       module _ (v : is_given 8 ws ≡ false) where
-        pub joint_status : (joint_fault ws ≡ 0 → ⊥) → 2 ≡ check_status ws
+        pub joint_status : (fault : JointFault) → Some fault ≡ joint_fault ws → 2 ≡ check_status ws
         unfolding check_status bytes_of option_names option_named place_among alike up_to
-        joint_status n = rw (e, h, v, ne_eqb (joint_fault ws) 0 n)
+        joint_status fault j = rw (e, h, v, ← j)
 
-        pub joint_text_lem : (joint_fault ws ≡ 0 → ⊥) → joint_text (joint_fault ws) ≡ check_text ws
-        unfolding check_text bytes_of option_names option_named place_among alike up_to
-        joint_text_lem n = rw (e, h, v, ne_eqb (joint_fault ws) 0 n)
+        pub joint_text_lem : (fault : JointFault) → Some fault ≡ joint_fault ws → joint_text fault ≡ check_text ws
+        unfolding check_text joint_text_of bytes_of option_names option_named place_among alike up_to
+        joint_text_lem fault j = rw (e, h, v, ← j)
 
-        pub run_status : joint_fault ws ≡ 0 → 3 ≡ check_status ws
+        pub run_status : None ≡ joint_fault ws → 3 ≡ check_status ws
         unfolding check_status bytes_of option_names option_named place_among alike up_to
-        run_status j = rw (e, h, v, eq-eqb (joint_fault ws) 0 j)
+        run_status j = rw (e, h, v, ← j)
 
-        pub run_text : joint_fault ws ≡ 0 → [] ≡ check_text ws
-        unfolding check_text bytes_of option_names option_named place_among alike up_to
-        run_text j = rw (e, h, v, eq-eqb (joint_fault ws) 0 j)
+        pub run_text : None ≡ joint_fault ws → [] ≡ check_text ws
+        unfolding check_text joint_text_of bytes_of option_names option_named place_among alike up_to
+        run_text j = rw (e, h, v, ← j)

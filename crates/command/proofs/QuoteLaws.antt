@@ -16,20 +16,26 @@ use Rattle.arguments.specs.Words.{up_to, place_among, alike, item_at}
 use Rattle.messages.specs.Messages.{decimal, filled, Says}
 use Rattle.messages.proofs.MessageLaws.{says_as, says_none}
 use Rattle.format.proofs.Modes.{both}
-use Rattle.grids.specs.Scale.{indices_of, Shaded}
+use Rattle.grids.specs.Scale.{number_of, indices_of, Shaded}
+use Rattle.grids.specs.declared.scale.ShadeRefusal.{ShadeRefusal}
+use Rattle.grids.specs.declared.scale.ShadeRefusal.TheVariants.{ListsTooShort, NotScale, NotQuote}
 use Rattle.grids.proofs.Placing.{length_indices}
 use Rattle.command.specs.Commands.{check_status}
 use Rattle.command.specs.Runs.{causes, refused_line, told_answer, Checked}
 use Rattle.command.specs.SheetReads.{refused_answer}
 use Rattle.command.specs.QuoteRuns.{lists_fit, counts_line, no_cells_line, counts_text, lists_text, shaded_answer, Quoted, QuoteRan}
 use Rattle.command.specs.declared.CommandAnswer.{CommandAnswer}
-use Rattle.command.proofs.RunLaws.{nothing_said, no_message, status_is, same_line}
+use Rattle.command.proofs.RunLaws.{nothing_said, no_message, status_is}
 
 -- the files' names and the counts
-pub counts_said : (ws : List (List ℕ)) (lows highs : ℕ) (a b c d : List ℕ) → a ≡ value_of 28 ws → b ≡ decimal highs → c ≡ value_of 27 ws → d ≡ decimal lows
-    → filled a b c d counts_line ≡ counts_text ws lows highs
+pub counts_said : (ws : List (List ℕ)) (lows highs : ℕ) (a c : List ℕ) → a ≡ value_of 28 ws → c ≡ value_of 27 ws → filled a (decimal highs) c (decimal lows) counts_line ≡ counts_text ws lows highs
 unfolding counts_text bytes_of option_names option_named place_among alike up_to
-counts_said ws lows highs a b c d ea eb ec ed = same_line counts_line ea eb ec ed
+counts_said ws lows highs a c e f = rw (e, f)
+
+number_nonzero : (why : ShadeRefusal) → number_of why ≡ 0 → ⊥
+number_nonzero ListsTooShort e = omega arith
+number_nonzero NotScale e = omega arith
+number_nonzero NotQuote e = omega arith
 
 module _ (ws : List (List ℕ)) (edges lows highs : List Float) (was : List ℕ) where
   -- ---- lists that do not fit
@@ -60,18 +66,20 @@ module _ (ws : List (List ℕ)) (edges lows highs : List Float) (was : List ℕ)
     unfolding lists_fit
     fits = rw (eq-eqb (length highs) (length lows) eq, le-leb (length lows) (length was) h)
 
-    pub not_painted : {later text_was text_later : List ℕ} {answer : CommandAnswer} (number : ℕ) → (number ≡ 0 → ⊥) → Shaded edges lows highs was later number → answer ≡ refused_answer number 0 answer.text
-        → Says text_was 0 (filled (decimal number) (item_at causes number) [] [] refused_line) text_later answer.text → Quoted ws edges lows highs was later text_was text_later answer
-    not_painted zero z shaded e said = absurd (z refl)
-    not_painted (suc n) z shaded e said = inr (record { fit = fits; number = suc n; shaded = shaded; numbers = e; message = said })
+    pub not_painted : {later text_was text_later : List ℕ} {answer : CommandAnswer} (why : ShadeRefusal) (number : ℕ) → number ≡ number_of why → Shaded edges lows highs was later (number_of why)
+        → answer ≡ refused_answer number 0 answer.text → Says text_was 0 (filled (decimal number) (item_at causes number) [] [] refused_line) text_later answer.text
+        → Quoted ws edges lows highs was later text_was text_later answer
+    not_painted {later} why zero n shaded e said = let z : ⊥ = number_nonzero why (sym n) in absurd z
+    not_painted {later} why (suc m) n shaded e said =
+        inr (record { fit = fits; number = suc m; shaded = subst (Shaded edges lows highs was later) (sym n) shaded; numbers = e; message = said })
 
-    pub painted : {later text_was : List ℕ} {answer : CommandAnswer} (number : ℕ) → number ≡ 0 → Shaded edges lows highs was later number → answer ≡ told_answer 3 0 → Quoted ws edges lows highs was later text_was text_was answer
-    painted {later} {text_was} {answer} number z shaded e =
+    pub painted : {later text_was : List ℕ} {answer : CommandAnswer} → Shaded edges lows highs was later 0 → answer ≡ told_answer 3 0 → Quoted ws edges lows highs was later text_was text_was answer
+    painted {later} {text_was} {answer} shaded e =
         let k : answer.text ≡ 0 = ap (λ (x : CommandAnswer). x.text) e in
         inr (record {
           fit = fits;
           number = 0;
-          shaded = subst (Shaded edges lows highs was later) z shaded;
+          shaded = shaded;
           numbers = e ∙ ap (told_answer 3) (sym k);
           message = subst (λ (x : ℕ). Says text_was 0 [] text_was x) (sym k) (says_none text_was 0);
         })

@@ -18,9 +18,10 @@ use Rattle.messages.proofs.MessageLaws.{says_as}
 use Rattle.format.specs.Readers as Readers
 use Rattle.format.specs.Readers.{Fields, fields_of, shows, refuses, read, shown_height}
 use Rattle.format.proofs.Passing.{or_false}
-use Rattle.reader.specs.declared.read.Reading.{Reading}
+use Rattle.std.specs.Prelude.{Ok, Err}
 use Rattle.reader.specs.declared.read.ReadingSizes.{ReadingSizes}
-use Rattle.reader.specs.Answers.{rows_shown, rows_in, Shows, Outcome, Read}
+use Rattle.reader.specs.declared.refusal.ReadRefusal.{ReadRefusal}
+use Rattle.reader.specs.Answers.{sizes_answered, ReadAnswer, SizesAnswer, rows_shown, rows_in, Shows, Outcome, Read}
 use Rattle.reader.specs.Numbers.{numbers_of, numbers_each, cell_count, head_bytes_of, table_bytes_of}
 use Rattle.reader.specs.Refusals.{is_coded, stream_fails}
 use Rattle.reader.specs.Rows.{plain_numbers, stream_numbers}
@@ -49,10 +50,14 @@ pub room_enough : (n m : ℕ) → room_for n ≤ m → m < 9223372036854775808 �
 unfolding room_for
 room_enough n m h l = omega arith
 
-pub sizes_lent : (s w : ReadingSizes) (n : ℕ) → n ≡ room_for s.cell_numbers → s ≡ w
+pub sizes_lent : (s : ReadingSizes) (w : SizesAnswer) (n : ℕ) → n ≡ room_for s.cell_numbers → sizes_answered (Ok s) ≡ w
     → record { head_bytes = s.head_bytes; table_bytes = s.table_bytes; cell_numbers = s.cell_numbers; out_bytes = n } ≡ lent_sizes w
-sizes_lent s w n e q =
-    (λ z. record { head_bytes = s.head_bytes; table_bytes = s.table_bytes; cell_numbers = s.cell_numbers; out_bytes = e z }) ∙ ap lent_sizes q
+sizes_lent s w n e q = (λ z. record { head_bytes = s.head_bytes; table_bytes = s.table_bytes; cell_numbers = s.cell_numbers; out_bytes = e z }) ∙ ap lent_sizes q
+
+-- of a file that is refused
+pub none_lent : (why : ReadRefusal) (w : SizesAnswer) → sizes_answered (Err why) ≡ w → record { head_bytes = 0; table_bytes = 0; cell_numbers = 0; out_bytes = 0 } ≡ lent_sizes w
+unfolding room_for
+none_lent why w q = ap lent_sizes q
 
 -- ---- how many numbers there are
 
@@ -86,7 +91,7 @@ height_shown (shows s) = s.height
 height_shown (refuses cause) = 0
 
 -- of a file that is read: its numbers, and where they stand
-pub record Numbered (file cells later_cells : List ℕ) (r : Reading) (each : ℕ) : Type 0 where
+pub record Numbered (file cells later_cells : List ℕ) (r : ReadAnswer) (each : ℕ) : Type 0 where
   pub some : 0 < r.width * each
   pub count : length (numbers_of (rows_in file)) ≡ r.width * each * r.height
   pub fits : r.width * each * r.height ≤ length cells
@@ -107,7 +112,7 @@ some_each d e = go (leb d 8) e
 pub line_small : (w d : ℕ) {n : ℕ} → n ≡ cond (leb d 8) 1 4 → w < 4294967296 → w * n ≤ 17179869180
 line_small w d {n} e h = let h4 : n ≤ 4 = few_each d e in omega (arith, mul-le-mul_left w h4)
 
-module _ (file head table cells later_head later_table later_cells : List ℕ) (r : Reading) (promise : Read file head table cells later_head later_table later_cells r) where
+module _ (file head table cells later_head later_table later_cells : List ℕ) (r : ReadAnswer) (promise : Read file head table cells later_head later_table later_cells r) where
   pub numbered : ((k : ℕ) → get_or file k 0 < 256) → r.refusal ≡ 0 → (each : ℕ) → each ≡ cond (leb r.depth 8) 1 4 → Numbered file cells later_cells r each
   unfolding rows_in
   numbered bytes done each e =

@@ -1,14 +1,14 @@
 -- Numbers in messages, and the answers of a run.
 use mathlib.Core.Bool.{Bool, true, false, cond}
-use mathlib.Core.Logic.{◌⊎◌, inl, inr}
+use mathlib.Core.Logic.{inl, inr}
 use mathlib.Core.List.{List, []}
 use mathlib.Core.Path.{◌≡◌, refl, sym, ap, subst, ◌∙◌}
-use Prim.Native.Nat.{ℕ, ◌-◌, ◌*◌, ◌<◌}
+use Prim.Native.Nat.{ℕ, ◌-◌}
 use native.Mathlib.Omega.{arith}
-use lib.Dec.{eqb}
-use lib.ListN.{length, take, drop}
+use lib.ListN.{length, take}
 use lib.Seq.{take-nil}
-use Rattle.leaves.specs.declared.encoder.EncodedBmpFormat.{EncodedBmpFormat}
+use Rattle.std.proofs.Common.{Ok, Err}
+use Rattle.std.specs.Result.{result_unwrap_or}
 use Rattle.leaves.specs.declared.encoder.EncodeSource.{EncodeSource}
 use Rattle.leaves.specs.declared.error.Refusal.{Refusal}
 use Rattle.leaves.specs.Formats.{written_name}
@@ -17,41 +17,32 @@ use Rattle.leaves.specs.Refusals.{number_of}
 use Rattle.leaves.specs.Texts.{bytes_of}
 use Rattle.leaves.proofs.Puts.{inside_put, put-nil}
 use Rattle.format.specs.Input.{Input}
-use Rattle.planner.specs.Answers.{Written, Sized, bound_bytes}
+use Rattle.planner.specs.Answers.{EncodeAnswer, BoundAnswer, Written, Sized, bound_bytes}
 use Rattle.planner.specs.Calls.{called}
 use Rattle.planner.specs.declared.encoder.Encoded.{Encoded}
-use Rattle.planner.specs.declared.encoder.Encoded.TheVariants as encoded
-use Rattle.planner.specs.declared.plan.SizeBound.{SizeBound}
 use Rattle.arguments.specs.Options.{option_names, option_named, is_none, is_given, value_of, first_fault, format_asked, source_asked, options_asked}
-use Rattle.arguments.specs.Words.{part_of, up_to, place_among, alike, item_at}
-use Rattle.arguments.proofs.Pieces.{part_rest}
+use Rattle.arguments.specs.Words.{up_to, place_among, alike, item_at}
 use Rattle.messages.specs.Checksum.{cksum}
 use Rattle.messages.specs.Messages.{decimal, filled, Says}
 use Rattle.sheets.specs.Sheets.{sheet_rows, width_of, is_grid, cells_of, SheetRead}
-use Rattle.sheets.specs.declared.Sheet.{Sheet}
-use Rattle.sheets.specs.declared.Sheet.TheVariants as reads
-use Rattle.command.specs.Commands.{joint_fault, joint_text, fault_text_at, help_text, version_text, asks_help, check_status, check_text}
+use Rattle.std.specs.Prelude.{Option, Some, None, is_some, Result, Ok}
+use Rattle.command.specs.declared.check.JointFault.{JointFault}
+use Rattle.sheets.specs.declared.Grid.{Grid}
+use Rattle.sheets.specs.declared.SheetError.{SheetError}
+use Rattle.command.specs.Commands.{joint_fault, joint_text_of, fault_text_at, help_text, version_text, asks_help, check_status, check_text}
 use Rattle.command.specs.Runs.{causes, told_answer, too_long_of, too_long_text, written_answer, written_text, written_line, refused_line, Checked, Encodes, most_index, sheet_source, palette_for, sheet_input, is_index_grid, SheetRun, Runs, Ran}
 use Rattle.command.specs.Sample.{sample_palette}
 use Rattle.command.specs.declared.CommandAnswer.{CommandAnswer}
 
 -- ---- messages
 
--- the digits of a number
-pub digits_of : (digits : List ℕ) (from n : ℕ) → drop from digits ≡ decimal n → length digits ≡ 20 → part_of digits from 20 ≡ decimal n
-digits_of digits from n e long = ap (part_of digits from) (sym long) ∙ part_rest digits from ∙ e
-
--- the same line with equal pieces
-pub same_line : {a b c d w x y z : List ℕ} (line : List ℕ) → a ≡ w → b ≡ x → c ≡ y → d ≡ z → filled a b c d line ≡ filled w x y z line
-same_line line e f g h = rw (e, f, g, h)
-
 -- what is said of a file, and of a refusal
-pub file_text : (ws : List (List ℕ)) (out name file : List ℕ) (format : EncodedBmpFormat) (bytes : ℕ) (e : Encoded) → e ≡ encoded.File format bytes → name ≡ value_of 24 ws → file ≡ take bytes out
-    → filled name (written_name format) (decimal (length file)) (decimal (cksum file)) written_line ≡ written_text ws out e
+pub file_text : (ws : List (List ℕ)) (out name file : List ℕ) (written : Encoded) (e : EncodeAnswer) → e ≡ Ok written → name ≡ value_of 24 ws → file ≡ take written.bytes out
+    → filled name (written_name written.format) (decimal (length file)) (decimal (cksum file)) written_line ≡ written_text ws out e
 unfolding bytes_of option_names option_named place_among alike up_to
-file_text ws out name file format bytes e eb en ef = rw (eb, en, ef)
+file_text ws out name file written e eb en ef = rw (eb, en, ef)
 
-pub refused_text : (ws : List (List ℕ)) (out : List ℕ) (why : Refusal) (e : Encoded) → e ≡ encoded.Refused why → filled (decimal (number_of why)) (item_at causes (number_of why)) [] [] refused_line ≡ written_text ws out e
+pub refused_text : (ws : List (List ℕ)) (out : List ℕ) (why : Refusal) (e : EncodeAnswer) → e ≡ Err why → filled (decimal (number_of why)) (item_at causes (number_of why)) [] [] refused_line ≡ written_text ws out e
 refused_text ws out why e eb = rw eb
 
 -- a message of nothing changes nothing
@@ -61,11 +52,16 @@ nothing_said {was} {message} {later} {n} e s =
 
 -- ---- a picture
 
-pub is_flag : (ws : List (List ℕ)) (bound : SizeBound) (source : EncodeSource) (bytes : ℕ) (more r b : Bool) → r ≡ too_long_of bound source bytes more → more ≡ is_given 4 ws → r ≡ b
+-- the bound that is told
+pub bound_told : (b : BoundAnswer) → result_unwrap_or b 0 ≡ bound_bytes b
+bound_told (Ok bytes) = refl
+bound_told (Err why) = refl
+
+pub is_flag : (ws : List (List ℕ)) (bound : BoundAnswer) (source : EncodeSource) (bytes : ℕ) (more r b : Bool) → r ≡ too_long_of bound source bytes more → more ≡ is_given 4 ws → r ≡ b
     → too_long_of bound source bytes (is_given 4 ws) ≡ b
 is_flag ws bound source bytes more r b e f g = ap (too_long_of bound source bytes) (sym f) ∙ sym e ∙ g
 
-module _ {ws : List (List ℕ)} {i : Input} {bound : SizeBound} (sized : Sized i bound) where
+module _ {ws : List (List ℕ)} {i : Input} {bound : BoundAnswer} (sized : Sized i bound) where
   pub too_long : {was text_was text_later : List ℕ} {answer : CommandAnswer} {n : ℕ} → too_long_of bound i.source (length i.plane) (is_given 4 ws) ≡ true → answer ≡ told_answer 2 n → Says text_was 0 (too_long_text i) text_later n
       → Encodes ws i was was text_was text_later answer
   unfolding bytes_of option_names option_named place_among alike up_to
@@ -80,7 +76,7 @@ module _ {ws : List (List ℕ)} {i : Input} {bound : SizeBound} (sized : Sized i
         buffer = refl;
       })
 
-  pub writes : {was later text_was text_later : List ℕ} {answer : CommandAnswer} {writer : Encoded} {k : ℕ} → too_long_of bound i.source (length i.plane) (is_given 4 ws) ≡ false → Written i 0 was later writer
+  pub writes : {was later text_was text_later : List ℕ} {answer : CommandAnswer} {writer : EncodeAnswer} {k : ℕ} → too_long_of bound i.source (length i.plane) (is_given 4 ws) ≡ false → Written i 0 was later writer
       → k ≡ bound_bytes bound → answer ≡ written_answer k answer.text writer → Says text_was 0 (written_text ws later writer) text_later answer.text → Encodes ws i was later text_was text_later answer
   unfolding bytes_of option_names option_named place_among alike up_to
   writes {was} {later} {text_was} {text_later} {answer} {writer} {k} fits written e numbers said =
@@ -97,42 +93,26 @@ module _ {ws : List (List ℕ)} {i : Input} {bound : SizeBound} (sized : Sized i
 -- ---- a sheet
 
 module _ (ws : List (List ℕ)) (sheet palette icc linked cells : List ℕ) where
-  -- the trouble of a sheet that is no grid
-  pub no_grid : {was text_was text_later : List ℕ} {answer : CommandAnswer} {n : ℕ} → (is_index_grid ws sheet ≡ false) ⊎ (length cells < length (sheet_rows sheet) * width_of (sheet_rows sheet)) → answer ≡ told_answer 2 n
-      → SheetRun ws sheet palette icc linked cells was was text_was text_later answer
-  no_grid {was} {text_was} {text_later} {answer} {n} trouble e =
-      let k : answer.text ≡ n = ap (λ (x : CommandAnswer). x.text) e in
-      inl (record { trouble = trouble; numbers = e ∙ ap (told_answer 2) (sym k); buffer = refl })
-
-  module _ (most : ℕ) (later : List ℕ) (is : most ≡ most_index (format_asked ws)) (read : Sheet) (done : SheetRead read most (sheet_rows sheet) cells later) where
-    as_read : (r : Sheet) → read ≡ r → SheetRead r most (sheet_rows sheet) cells later
-    as_read r e = subst (λ (x : Sheet). SheetRead x most (sheet_rows sheet) cells later) e done
+  module _ (most : ℕ) (later : List ℕ) (is : most ≡ most_index (format_asked ws)) (read : Result Grid SheetError) (done : SheetRead read most (sheet_rows sheet) cells later) where
+    as_read : (r : Result Grid SheetError) → read ≡ r → SheetRead r most (sheet_rows sheet) cells later
+    as_read r e = subst (λ (x : Result Grid SheetError). SheetRead x most (sheet_rows sheet) cells later) e done
 
     same_grid : (b : Bool) → is_grid most (width_of (sheet_rows sheet)) (sheet_rows sheet) ≡ b → is_index_grid ws sheet ≡ b
     same_grid b e = ap (λ (m : ℕ). is_grid m (width_of (sheet_rows sheet)) (sheet_rows sheet)) (sym is) ∙ e
 
-    pub not_an_index : (row column from to : ℕ) → read ≡ reads.NotAnIndex row column from to → is_index_grid ws sheet ≡ false
-    not_an_index row column from to e = same_grid false (as_read (reads.NotAnIndex row column from to) e)
-
-    pub ragged : (row count width : ℕ) → read ≡ reads.Ragged row count width → is_index_grid ws sheet ≡ false
-    ragged row count width e = same_grid false (as_read (reads.Ragged row count width) e)
-
-    pub no_room : read ≡ reads.NoRoom → length cells < length (sheet_rows sheet) * width_of (sheet_rows sheet)
-    no_room e = as_read reads.NoRoom e
-
-    module _ (width height n : ℕ) (e : read ≡ reads.Rows width height n) where
-      read_as : SheetRead (reads.Rows width height n) most (sheet_rows sheet) cells later
-      read_as = as_read (reads.Rows width height n) e
+    module _ (grid : Grid) (e : read ≡ Ok grid) where
+      read_as : SheetRead (Ok grid) most (sheet_rows sheet) cells later
+      read_as = as_read (Ok grid) e
 
       is_grid_lem : is_index_grid ws sheet ≡ true
       is_grid_lem = same_grid true (ap (λ (w : ℕ). is_grid most w (sheet_rows sheet)) (sym read_as.1) ∙ read_as.0)
 
-      cells-read : take n later ≡ cells_of (sheet_rows sheet)
+      cells-read : take grid.cells later ≡ cells_of (sheet_rows sheet)
       cells-read =
           let s = cells_of (sheet_rows sheet) in
           ap (λ (k : ℕ). take k later) read_as.3 ∙ ap (λ (l : List ℕ). take (length s) l) read_as.5 ∙ inside_put cells 0 s (omega arith)
 
-      pub grid_run : {was out text_was text_later : List ℕ} {answer : CommandAnswer} (source : EncodeSource) (plane : List ℕ) → source ≡ sheet_source ws width height → plane ≡ take n later
+      pub grid_run : {was out text_was text_later : List ℕ} {answer : CommandAnswer} (source : EncodeSource) (plane : List ℕ) → source ≡ sheet_source ws grid.width grid.height → plane ≡ take grid.cells later
           → Encodes ws (called source (options_asked ws) plane palette icc linked) was out text_was text_later answer → SheetRun ws sheet palette icc linked cells was out text_was text_later answer
       grid_run {was} {out} {text_was} {text_later} {answer} source plane es ep done =
           let input : called source (options_asked ws) plane palette icc linked ≡ sheet_input ws sheet palette icc linked =
@@ -153,14 +133,14 @@ module _ (ws : List (List ℕ)) (plane palette icc linked cells was later text_w
 
 -- the words of a command that is run have no message
 pub no_message : (ws : List (List ℕ)) → check_status ws ≡ 3 → check_text ws ≡ []
-unfolding check_status check_text
-no_message ws e = go (is_none (first_fault ws)) (asks_help ws) (is_given (option_named (bytes_of "--version")) ws) (eqb (joint_fault ws) 0) e
+unfolding check_status check_text joint_text_of
+no_message ws e = go (is_none (first_fault ws)) (asks_help ws) (is_given (option_named (bytes_of "--version")) ws) (joint_fault ws) e
   where
-    go : (a b c d : Bool) → ◌≡◌ {A = ℕ} (cond a (cond b 0 (cond c 0 (cond d 3 2))) 2) 3 → cond a (cond b help_text (cond c version_text (cond d [] (joint_text (joint_fault ws))))) (fault_text_at (first_fault ws)) ≡ []
+    go : (a b c : Bool) (d : Option JointFault) → ◌≡◌ {A = ℕ} (cond a (cond b 0 (cond c 0 (cond (is_some d) 2 3))) 2) 3 → cond a (cond b help_text (cond c version_text (joint_text_of d))) (fault_text_at (first_fault ws)) ≡ []
     go true true c d q = let z : ⊥ = omega arith in absurd z
     go true false true d q = let z : ⊥ = omega arith in absurd z
-    go true false false true q = refl
-    go true false false false q = let z : ⊥ = omega arith in absurd z
+    go true false false None q = refl
+    go true false false (Some fault) q = let z : ⊥ = omega arith in absurd z
     go false b c d q = let z : ⊥ = omega arith in absurd z
 
 module _ {ws : List (List ℕ)} {text_was text_later : List ℕ} {r : CommandAnswer} (checked : Checked ws text_was text_later r) where

@@ -1,5 +1,5 @@
 -- What the command promises, of its words, the files and the lent memory.
-use Rattle.std.specs.Prelude.{Bool, true, false, cond, not, ◌&&◌, ◌⊎◌, ◌≡◌, List, [], ◌∷◌, map, ℕ, ◌*◌, ◌<◌, min, ltb, length, take}
+use Rattle.std.specs.Prelude.{Bool, true, false, cond, not, ◌&&◌, ◌⊎◌, ◌≡◌, List, [], ◌∷◌, map, ℕ, ◌*◌, ◌<◌, min, ltb, length, take, Ok, Err}
 use Rattle.leaves.specs.declared.encoder.EncodeSource.{EncodeSource}
 use Rattle.leaves.specs.declared.image.BmpPixelFormat.{BmpPixelFormat}
 use Rattle.leaves.specs.declared.image.BmpPixelFormat.TheVariants as source
@@ -7,12 +7,8 @@ use Rattle.leaves.specs.Formats.{written_name}
 use Rattle.leaves.specs.Refusals.{number_of}
 use Rattle.leaves.specs.Texts.{bytes_of}
 use Rattle.format.specs.Input.{Input}
-use Rattle.planner.specs.Answers.{Written, Sized, bound_bytes}
+use Rattle.planner.specs.Answers.{EncodeAnswer, BoundAnswer, Written, Sized, bound_bytes}
 use Rattle.planner.specs.Calls.{called}
-use Rattle.planner.specs.declared.encoder.Encoded.{Encoded}
-use Rattle.planner.specs.declared.encoder.Encoded.TheVariants as encoded
-use Rattle.planner.specs.declared.plan.SizeBound.{SizeBound}
-use Rattle.planner.specs.declared.plan.SizeBound.TheVariants as sized
 use Rattle.arguments.specs.Options.{numbered, is_given, value_of, has_palette_of, format_asked, source_asked, options_asked}
 use Rattle.arguments.specs.Words.{item_at}
 use Rattle.messages.specs.Checksum.{cksum}
@@ -65,11 +61,11 @@ causes =
     ∷ [])
 
 -- where the size query passes: more bytes than the rows take, unless more may follow
-abbrev pub too_long_of : SizeBound → EncodeSource → ℕ → Bool → Bool
-too_long_of (sized.Bytes bound) s bytes more = ltb (s.stride * s.height) bytes && not more
-too_long_of (sized.Refused why) s bytes more = false
+abbrev pub too_long_of : BoundAnswer → EncodeSource → ℕ → Bool → Bool
+too_long_of (Ok bound) s bytes more = ltb (s.stride * s.height) bytes && not more
+too_long_of (Err why) s bytes more = false
 
-abbrev pub is_too_long : SizeBound → List (List ℕ) → Input → Bool
+abbrev pub is_too_long : BoundAnswer → List (List ℕ) → Input → Bool
 is_too_long bound ws i = too_long_of bound i.source (length i.plane) (is_given (numbered "--more-follows") ws)
 
 unfoldable pub too_long_line : List ℕ
@@ -85,19 +81,19 @@ abbrev pub too_long_text : Input → List ℕ
 too_long_text i = filled (decimal (length i.plane)) (decimal i.source.stride) (decimal i.source.height) [] too_long_line
 
 -- what the writer answers, as numbers and as a message
-abbrev pub written_answer : ℕ → ℕ → Encoded → CommandAnswer
-written_answer bound text (encoded.File format bytes) = record { bytes = bytes; bound = bound; text = text; status = 0; refusal = 0 }
-written_answer bound text (encoded.Refused why) = record { bytes = 0; bound = bound; text = text; status = 1; refusal = number_of why }
+abbrev pub written_answer : ℕ → ℕ → EncodeAnswer → CommandAnswer
+written_answer bound text (Ok file) = record { bytes = file.bytes; bound = bound; text = text; status = 0; refusal = 0 }
+written_answer bound text (Err why) = record { bytes = 0; bound = bound; text = text; status = 1; refusal = number_of why }
 
-abbrev pub written_text : List (List ℕ) → List ℕ → Encoded → List ℕ
-written_text ws later (encoded.File format bytes) =
-    let file = take bytes later in
-    filled (value_of (numbered "--out") ws) (written_name format) (decimal (length file)) (decimal (cksum file)) written_line
-written_text ws later (encoded.Refused why) = filled (decimal (number_of why)) (item_at causes (number_of why)) [] [] refused_line
+abbrev pub written_text : List (List ℕ) → List ℕ → EncodeAnswer → List ℕ
+written_text ws later (Ok written) =
+    let file = take written.bytes later in
+    filled (value_of (numbered "--out") ws) (written_name written.format) (decimal (length file)) (decimal (cksum file)) written_line
+written_text ws later (Err why) = filled (decimal (number_of why)) (item_at causes (number_of why)) [] [] refused_line
 
 -- of a picture: the size query's answer and the writer's with their whole promises, unless the plane is too long, which changes nothing
 pub record TooLong (ws : List (List ℕ)) (i : Input) (was later text_was text_later : List ℕ) (answer : CommandAnswer) : Type 0 where
-  pub bound : SizeBound
+  pub bound : BoundAnswer
   pub sized : Sized i bound
   pub longer : is_too_long bound ws i ≡ true
   pub numbers : answer ≡ told_answer 2 answer.text
@@ -105,10 +101,10 @@ pub record TooLong (ws : List (List ℕ)) (i : Input) (was later text_was text_l
   pub buffer : later ≡ was
 
 pub record Writes (ws : List (List ℕ)) (i : Input) (was later text_was text_later : List ℕ) (answer : CommandAnswer) : Type 0 where
-  pub bound : SizeBound
+  pub bound : BoundAnswer
   pub sized : Sized i bound
   pub fits : is_too_long bound ws i ≡ false
-  pub writer : Encoded
+  pub writer : EncodeAnswer
   pub written : Written i 0 was later writer
   pub numbers : answer ≡ written_answer (bound_bytes bound) answer.text writer
   pub message : Says text_was 0 (written_text ws later writer) text_later answer.text

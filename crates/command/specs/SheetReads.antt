@@ -4,9 +4,7 @@ use Rattle.leaves.specs.Put.{put}
 use Rattle.leaves.specs.Texts.{bytes_of}
 use Rattle.arguments.specs.Words.{item_at}
 use Rattle.messages.specs.Messages.{decimal, filled, Says}
-use Rattle.reader.specs.declared.read.Reading.{Reading}
-use Rattle.reader.specs.declared.read.ReadingSizes.{ReadingSizes}
-use Rattle.reader.specs.Answers.{Read, rows_in}
+use Rattle.reader.specs.Answers.{ReadAnswer, SizesAnswer, Read, rows_in}
 use Rattle.reader.specs.Numbers.{numbers_of}
 use Rattle.sheets.specs.SheetTexts.{sheet_text}
 use Rattle.command.specs.Commands.{check_status}
@@ -17,29 +15,29 @@ use Rattle.command.specs.declared.CommandSizes.{CommandSizes}
 -- ---- the sheet
 
 -- a row's numbers: "an index a cell up to depth 8, otherwise four columns a cell: red, green, blue, alpha"
-unfoldable pub line_numbers : Reading → ℕ
+unfoldable pub line_numbers : ReadAnswer → ℕ
 line_numbers r = r.width * cond (leb r.depth 8) 1 4
 
 -- "one line a row from the top"
-unfoldable pub sheet_of : Reading → List ℕ → List ℕ
+unfoldable pub sheet_of : ReadAnswer → List ℕ → List ℕ
 sheet_of r file = sheet_text (line_numbers r) (numbers_of (rows_in file))
 
 -- the memory for so many numbers: ten digits and a mark each, as far as 64 bits count
 unfoldable pub room_for : ℕ → ℕ
 room_for n = min (11 * n) 0xFFFFFFFFFFFFFFFF
 
-unfoldable pub sheet_room : Reading → ℕ
+unfoldable pub sheet_room : ReadAnswer → ℕ
 sheet_room r = room_for (line_numbers r * r.height)
 
 -- what must be lent, by the reader's sizes
-abbrev pub lent_sizes : ReadingSizes → CommandSizes
+abbrev pub lent_sizes : SizesAnswer → CommandSizes
 lent_sizes s =
     record { head_bytes = s.head_bytes; table_bytes = s.table_bytes; cell_numbers = s.cell_numbers; out_bytes = room_for s.cell_numbers }
 
 -- ---- a reading, into memory of so many bytes
 
 -- the reader's number, or 15 where the sheet's memory is too short
-unfoldable pub read_number : Reading → ℕ → ℕ
+unfoldable pub read_number : ReadAnswer → ℕ → ℕ
 read_number r room = cond (eqb r.refusal 0) (cond (ltb room (sheet_room r)) 15 0) r.refusal
 
 abbrev pub refused_answer : ℕ → ℕ → ℕ → CommandAnswer
@@ -54,7 +52,7 @@ read_answer_of (suc n) bound bytes text = refused_answer (suc n) bound text
 unfoldable pub read_line : List ℕ
 read_line = bytes_of "@ x #, % bits, sheet of & bytes\n"
 
-abbrev pub read_text : ℕ → Reading → List ℕ → List ℕ
+abbrev pub read_text : ℕ → ReadAnswer → List ℕ → List ℕ
 read_text zero r sheet = filled (decimal r.width) (decimal r.height) (decimal r.depth) (decimal (length sheet)) read_line
 read_text (suc n) r sheet = filled (decimal (suc n)) (item_at causes (suc n)) [] [] refused_line
 
@@ -64,7 +62,7 @@ later_out (suc n) was sheet = was
 
 -- the reader's answer with its whole promise, and the sheet of what it shows
 pub record SheetOut (file head table cells later_head later_table later_cells was later text_was text_later : List ℕ) (answer : CommandAnswer) : Type 0 where
-  pub reading : Reading
+  pub reading : ReadAnswer
   pub promise : Read file head table cells later_head later_table later_cells reading
   pub numbers : answer ≡ read_answer_of (read_number reading (length was)) (sheet_room reading) (length (sheet_of reading file)) answer.text
   pub message : Says text_was 0 (read_text (read_number reading (length was)) reading (sheet_of reading file)) text_later answer.text

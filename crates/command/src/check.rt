@@ -1,116 +1,190 @@
 // What a command's words alone decide.
-ghost use Rattle.std.specs.Prelude.{◌≡◌, ◌+◌, ◌≤◌, length, drop};
+ghost use Rattle.std.specs.Prelude.{◌≡◌, ◌≤◌, length, drop};
+ghost use Rattle.std.specs.List.{list_any, list_all};
+ghost use Rattle.arguments.specs.Options.{place_of, is_given};
 ghost use Rattle.arguments.specs.Words.{words_of};
 ghost use Rattle.messages.specs.Messages.{Says};
-ghost use Rattle.command.specs.Commands.{first_found, one_given, all_prices, cells_fault, write_fault, read_fault, joint_fault, fault_text_at, joint_text, help_text, version_text, file_named};
+ghost use Rattle.command.specs.Commands.{cells_fault, write_fault, asks_writing, read_fault, joint_fault, fault_line, fault_text_at, joint_line, joint_text, help_text, version_text, is_skipped, file_named};
 ghost use Rattle.command.specs.Runs.{Checked, told_answer};
 
 use crate::CommandAnswer;
 use arguments::options::{
-    CSV, EDGES, FORMAT, HEIGHT, HELP, HIGHS, LINKED_ICC, LOWS, NO_EMBED_ICC, OUT, PALETTE, PLANE,
-    READ, SAMPLE_PALETTE, SHORT_HELP, STRIDE, TOP_DOWN, VERSION, WIDTH, fault_at, first_fault,
-    format_asked, is_given, name_at, value_at, value_of,
+    CommandOption, Fault, fault_at, first_fault, format_asked, is_given, name_at, value_at,
+    value_of,
 };
-use arguments::words::{both, either, item};
-use messages::message::{tell, tell_line};
+use messages::message::{Piece, tell, tell_line};
 
-// The first fault that is found.
-fn first_found(found: usize, test: bool, number: usize) -> usize
-    ensures { result ≡ first_found found test number }
-{
-    if found != 0 {
-        return found;
-    }
-    if test { number } else { 0 }
+// What is missing of a command, or does not go together.
+#[derive(Clone, Copy)]
+pub enum JointFault {
+    NoCells,
+    PlaneAndCsv,
+    NoWidth,
+    NoHeight,
+    SizeWithCsv,
+    CsvNotIndexed,
+    TwoPalettes,
+    NoOut,
+    ReadAndWrite,
+    NoCsv,
+    PricesBesideCells,
+    PricesApart,
+    PricesNotPal8,
 }
 
-// Whether one of some options from a number on is given.
-fn one_given(words: &[u8], from: usize, count: usize) -> bool
-    requires { from + count ≤ 29 }
-    ensures { result ≡ one_given from count (words_of words.now) }
+// The files of prices, which go together.
+const PRICES: [CommandOption; 3] = [
+    CommandOption::Edges,
+    CommandOption::Lows,
+    CommandOption::Highs,
+];
+
+// The options that name files, in the order of the files' numbers.
+const FILES: [CommandOption; 10] = [
+    CommandOption::Plane,
+    CommandOption::Csv,
+    CommandOption::Palette,
+    CommandOption::Icc,
+    CommandOption::LinkedIcc,
+    CommandOption::Out,
+    CommandOption::Read,
+    CommandOption::Edges,
+    CommandOption::Lows,
+    CommandOption::Highs,
+];
+
+// Whether one of some options is given.
+fn any_given(words: &[u8], options: &[CommandOption]) -> bool
+    ensures { result ≡ list_any (λ o. is_given (place_of o) (words_of words.now)) options.now }
 {
-    let mut given = false;
-    let mut i = 0;
-    while i < count {
-        given = either(given, is_given(words, from + i));
-        i += 1;
-    }
-    given
+    options.iter().any(|option| is_given(words, *option))
 }
 
-// Whether all three files of prices are given.
-fn all_prices(words: &[u8]) -> bool
-    ensures { result ≡ all_prices (words_of words.now) }
+// Whether all of some options are given.
+fn all_given(words: &[u8], options: &[CommandOption]) -> bool
+    ensures { result ≡ list_all (λ o. is_given (place_of o) (words_of words.now)) options.now }
 {
-    both(
-        is_given(words, EDGES),
-        both(is_given(words, LOWS), is_given(words, HIGHS)),
-    )
+    options.iter().all(|option| is_given(words, *option))
 }
 
-// What is missing, or does not go together, of a command that writes, by number; 0 where all is well. First what the
-// cells come from.
-fn cells_fault(words: &[u8]) -> usize
+// What is wrong with a command that writes: first what the cells come from.
+fn cells_fault(words: &[u8]) -> Option<JointFault>
     ensures { result ≡ cells_fault (words_of words.now) }
 {
-    let plane = is_given(words, PLANE);
-    let csv = is_given(words, CSV);
-    let prices = one_given(words, EDGES, 3);
-    let a = first_found(0, !either(plane, either(csv, prices)), 1);
-    let b = first_found(a, both(plane, csv), 2);
-    let c = first_found(b, both(prices, either(plane, csv)), 11);
-    first_found(c, both(prices, !all_prices(words)), 12)
+    let plane = is_given(words, CommandOption::Plane);
+    let csv = is_given(words, CommandOption::Csv);
+    let prices = any_given(words, &PRICES);
+    (!(plane | csv | prices))
+        .then_some(JointFault::NoCells)
+        .or((plane & csv).then_some(JointFault::PlaneAndCsv))
+        .or((prices & (plane | csv)).then_some(JointFault::PricesBesideCells))
+        .or((prices & !all_given(words, &PRICES)).then_some(JointFault::PricesApart))
 }
 
 // And then the rest.
-fn write_fault(words: &[u8]) -> usize
+fn write_fault(words: &[u8]) -> Option<JointFault>
     ensures { result ≡ write_fault (words_of words.now) }
 {
-    let csv = is_given(words, CSV);
-    let prices = one_given(words, EDGES, 3);
-    let raw = either(is_given(words, PLANE), prices);
-    let size = either(
-        is_given(words, WIDTH),
-        either(is_given(words, HEIGHT), is_given(words, STRIDE)),
-    );
+    let csv = is_given(words, CommandOption::Csv);
+    let prices = any_given(words, &PRICES);
+    let raw = is_given(words, CommandOption::Plane) | prices;
+    let width = is_given(words, CommandOption::Width);
+    let height = is_given(words, CommandOption::Height);
+    let size = width | height | is_given(words, CommandOption::Stride);
+    let two_palettes = is_given(words, CommandOption::Palette)
+        & is_given(words, CommandOption::SamplePalette);
     let format = format_asked(words);
     let indexed = format.is_indexed();
     let depth = format.bits_per_pixel();
-    let a = first_found(cells_fault(words), both(raw, !is_given(words, WIDTH)), 3);
-    let b = first_found(a, both(raw, !is_given(words, HEIGHT)), 4);
-    let c = first_found(b, both(csv, size), 5);
-    let d = first_found(c, both(csv, !indexed), 6);
-    let e = first_found(d, both(prices, depth != 8), 13);
-    let f = first_found(
-        e,
-        both(is_given(words, PALETTE), is_given(words, SAMPLE_PALETTE)),
-        7,
-    );
-    first_found(f, !is_given(words, OUT), 8)
+    cells_fault(words)
+        .or((raw & !width).then_some(JointFault::NoWidth))
+        .or((raw & !height).then_some(JointFault::NoHeight))
+        .or((csv & size).then_some(JointFault::SizeWithCsv))
+        .or((csv & !indexed).then_some(JointFault::CsvNotIndexed))
+        .or((prices & (depth != 8)).then_some(JointFault::PricesNotPal8))
+        .or(two_palettes.then_some(JointFault::TwoPalettes))
+        .or((!is_given(words, CommandOption::Out)).then_some(JointFault::NoOut))
 }
 
-// The same of a command that reads.
-fn read_fault(words: &[u8]) -> usize
+// Whether a word says how to write: all options do but --csv, --read, help and the version.
+fn asks_writing(words: &[u8]) -> bool
+    ensures { result ≡ asks_writing (words_of words.now) }
+{
+    let flags = [
+        CommandOption::TopDown,
+        CommandOption::MinimalPalette,
+        CommandOption::NoRle,
+        CommandOption::NoEmbedIcc,
+        CommandOption::MoreFollows,
+        CommandOption::SamplePalette,
+    ];
+    let values = [
+        CommandOption::Format,
+        CommandOption::Width,
+        CommandOption::Height,
+        CommandOption::Stride,
+        CommandOption::RenderingIntent,
+        CommandOption::Bitfields,
+        CommandOption::Calibrated,
+        CommandOption::Limit,
+        CommandOption::Pels,
+        CommandOption::Plane,
+    ];
+    let files = [
+        CommandOption::Palette,
+        CommandOption::Icc,
+        CommandOption::LinkedIcc,
+        CommandOption::Out,
+    ];
+    any_given(words, &flags)
+        | any_given(words, &values)
+        | any_given(words, &files)
+        | any_given(words, &PRICES)
+}
+
+// What is wrong with a command that reads.
+fn read_fault(words: &[u8]) -> Option<JointFault>
     ensures { result ≡ read_fault (words_of words.now) }
 {
-    let writing = either(
-        one_given(words, TOP_DOWN, 6),
-        either(
-            one_given(words, FORMAT, 10),
-            either(one_given(words, PALETTE, 4), one_given(words, EDGES, 3)),
-        ),
-    );
-    let a = first_found(0, writing, 9);
-    first_found(a, !is_given(words, CSV), 10)
+    let csv = is_given(words, CommandOption::Csv);
+    asks_writing(words)
+        .then_some(JointFault::ReadAndWrite)
+        .or((!csv).then_some(JointFault::NoCsv))
 }
 
-fn joint_fault(words: &[u8]) -> usize
+fn joint_fault(words: &[u8]) -> Option<JointFault>
     ensures { result ≡ joint_fault (words_of words.now) }
 {
-    if is_given(words, READ) {
-        return read_fault(words);
+    if is_given(words, CommandOption::Read) {
+        read_fault(words)
+    } else {
+        write_fault(words)
     }
-    write_fault(words)
+}
+
+// What is said of an option that is not understood: @ is its name, # its value.
+fn fault_line(fault: Fault) -> &'static [u8]
+    ensures { result.now ≡ fault_line fault }
+{
+    match fault {
+        Fault::UnknownOption => b"@ is no option (--help lists the options)\n",
+        Fault::NoValue => b"@ has no value (--help lists the options)\n",
+        Fault::NoNumber => b"@: '#' is no number from 0 to 4294967295\n",
+        Fault::UnknownFormat => {
+            b"@: '#' is none of Rgba, Rgb24, Bgra, Bgr24, Rgb555, Rgb565, Pal8, Indexed4, Indexed2, Indexed1\n"
+        }
+        Fault::NotMasks => {
+            b"@: '#' is no list D,R,G,B,A of a depth from 0 to 65535 and four masks from 0 to 4294967295\n"
+        }
+        Fault::NotCalibrated => {
+            b"@: '#' is no list of nine endpoints from -2147483648 to 2147483647 and three gammas from 0 to 4294967295\n"
+        }
+        Fault::NoStride => b"@: '#' is no number from 0 to 1152921504606846975\n",
+        Fault::TakesNoValue => b"@ takes no value, and is given '#'\n",
+        Fault::WordBehind => b"@ is followed by '#': the command takes options only\n",
+        Fault::NoLimit => b"@: '#' is no number of bytes from 0 to 4294967295\n",
+        Fault::NoPels => b"@: '#' is no pair X,Y of pixels a metre from 0 to 2147483647\n",
+    }
 }
 
 // Says what is wrong with the option at a place.
@@ -118,47 +192,43 @@ fn tell_fault(words: &[u8], at: usize, text: &mut [u8]) -> usize
     requires { at ≤ length words.now }
     ensures { Says text.old 0 (fault_text_at (words_of (drop at words.now))) text.new result }
 {
-    let lines = b"|@ is no option (--help lists the options)\n\
-        |@ has no value (--help lists the options)\n\
-        |@: '#' is no number from 0 to 4294967295\n\
-        |@: '#' is none of Rgba, Rgb24, Bgra, Bgr24, Rgb555, Rgb565, Pal8, Indexed4, Indexed2, Indexed1\n\
-        |@: '#' is no list D,R,G,B,A of a depth from 0 to 65535 and four masks from 0 to 4294967295\n\
-        |@: '#' is no list of nine endpoints from -2147483648 to 2147483647 and three gammas from 0 to 4294967295\n\
-        |@: '#' is no number from 0 to 1152921504606846975\n\
-        |@ takes no value, and is given '#'\n\
-        |@ is followed by '#': the command takes options only\n\
-        |@: '#' is no number of bytes from 0 to 4294967295\n\
-        |@: '#' is no pair X,Y of pixels a metre from 0 to 2147483647\n";
-    let line = item(lines, fault_at(words, at), b'|');
-    tell(
-        text,
-        line,
-        name_at(words, at),
-        value_at(words, at),
-        b"",
-        b"",
-    )
+    let Some(fault) = fault_at(words, at) else {
+        return 0;
+    };
+    let name = Piece::Text(name_at(words, at));
+    let value = Piece::Text(value_at(words, at));
+    tell(text, fault_line(fault), &[name, value])
+}
+
+fn joint_line(fault: JointFault) -> &'static [u8]
+    ensures { result.now ≡ joint_line fault }
+{
+    match fault {
+        JointFault::NoCells => {
+            b"--plane FILE or --csv FILE is missing, or --edges, --lows and --highs (--help lists the options)\n"
+        }
+        JointFault::PlaneAndCsv => b"--plane and --csv are both given\n",
+        JointFault::NoWidth => b"--width N is missing\n",
+        JointFault::NoHeight => b"--height N is missing\n",
+        JointFault::SizeWithCsv => b"--csv takes width, height and stride from the sheet\n",
+        JointFault::CsvNotIndexed => b"--csv is for Pal8, Indexed4, Indexed2 and Indexed1 alone\n",
+        JointFault::TwoPalettes => b"--palette and --sample-palette are both given\n",
+        JointFault::NoOut => b"--out FILE is missing\n",
+        JointFault::ReadAndWrite => b"--read goes with --csv FILE alone\n",
+        JointFault::NoCsv => b"--csv FILE is missing\n",
+        JointFault::PricesBesideCells => {
+            b"--edges, --lows and --highs stand in place of --plane and --csv\n"
+        }
+        JointFault::PricesApart => b"--edges, --lows and --highs go together\n",
+        JointFault::PricesNotPal8 => b"--edges, --lows and --highs are for Pal8 alone\n",
+    }
 }
 
 // Says what is missing, or does not go together.
-fn tell_joint(fault: usize, text: &mut [u8]) -> usize
+fn tell_joint(fault: JointFault, text: &mut [u8]) -> usize
     ensures { Says text.old 0 (joint_text fault) text.new result }
 {
-    let lines =
-        b"|--plane FILE or --csv FILE is missing, or --edges, --lows and --highs (--help lists the options)\n\
-        |--plane and --csv are both given\n\
-        |--width N is missing\n\
-        |--height N is missing\n\
-        |--csv takes width, height and stride from the sheet\n\
-        |--csv is for Pal8, Indexed4, Indexed2 and Indexed1 alone\n\
-        |--palette and --sample-palette are both given\n\
-        |--out FILE is missing\n\
-        |--read goes with --csv FILE alone\n\
-        |--csv FILE is missing\n\
-        |--edges, --lows and --highs stand in place of --plane and --csv\n\
-        |--edges, --lows and --highs go together\n\
-        |--edges, --lows and --highs are for Pal8 alone\n";
-    tell_line(text, item(lines, fault, b'|'))
+    tell_line(text, joint_line(fault))
 }
 
 fn tell_help(text: &mut [u8]) -> usize
@@ -233,35 +303,39 @@ pub(crate) fn told(status: u32, text: usize) -> CommandAnswer
 pub fn check(words: &[u8], text: &mut [u8]) -> CommandAnswer
     ensures { Checked (words_of words.now) text.old text.new result }
 {
-    let at = first_fault(words);
-    if at < words.len() {
+    if let Some(at) = first_fault(words) {
         return told(2, tell_fault(words, at, text));
     }
-    if either(is_given(words, HELP), is_given(words, SHORT_HELP)) {
+    if is_given(words, CommandOption::Help) | is_given(words, CommandOption::ShortHelp) {
         return told(0, tell_help(text));
     }
-    if is_given(words, VERSION) {
+    if is_given(words, CommandOption::Version) {
         return told(0, tell_version(text));
     }
-    let fault = joint_fault(words);
-    if fault != 0 {
+    if let Some(fault) = joint_fault(words) {
         return told(2, tell_joint(fault, text));
     }
     told(3, 0)
+}
+
+// Whether a file is a profile that will not be written, and so not read.
+fn is_skipped(words: &[u8], file: u32) -> bool
+    ensures { result ≡ is_skipped file (words_of words.now) }
+{
+    let unwritten = is_given(words, CommandOption::NoEmbedIcc)
+        | is_given(words, CommandOption::LinkedIcc);
+    unwritten & (file == 3)
 }
 
 // A file's name; empty where the command neither reads nor writes it.
 pub fn file_name<'a>(words: &'a [u8], file: u32) -> &'a [u8]
     ensures { result.now ≡ file_named file (words_of words.now) }
 {
-    if file > 9 {
-        return &words[0..0];
+    if is_skipped(words, file) {
+        return b"";
     }
-    if both(
-        file == 3,
-        either(is_given(words, NO_EMBED_ICC), is_given(words, LINKED_ICC)),
-    ) {
-        return &words[0..0];
+    match FILES.get(file as usize) {
+        Some(option) => value_of(words, *option),
+        None => b"",
     }
-    value_of(words, PLANE + file as usize)
 }

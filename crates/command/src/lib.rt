@@ -17,7 +17,7 @@ use crate::check::{check, file_name};
 use crate::quotes::run_quotes;
 use crate::reading::{lent_sizes, run_reading};
 use crate::run::run;
-use messages::message::tell;
+use messages::message::{Piece, tell};
 
 pub mod check;
 pub mod quotes;
@@ -65,7 +65,7 @@ pub fn bmp_command_check(words: &[u8], text: &mut [u8]) -> CommandAnswer
 pub fn bmp_command_file(words: &[u8], file: u32, name: &mut [u8]) -> u64
     ensures { Says name.old 0 (file_named file (words_of words.now)) name.new result }
 {
-    tell(name, b"@", file_name(words, file), b"", b"", b"") as u64
+    tell(name, b"@", &[Piece::Text(file_name(words, file))]) as u64
 }
 
 // Runs the command on files in memory: `plane` is the plane, the sheet or what `bmp_command_shade` has painted, `cells`

@@ -7,26 +7,23 @@ ghost use Rattle.command.specs.QuoteRuns.{counts_text, Quoted, QuoteRan};
 use crate::CommandAnswer;
 use crate::check::{check, told};
 use crate::reading::refused;
-use arguments::options::{HIGHS, LOWS, value_of};
-use arguments::words::part;
+use arguments::options::{CommandOption, value_of};
 use grids::scale::shade_quotes;
-use messages::message::{in_decimal, tell, tell_line};
+use messages::message::{Piece, tell, tell_line};
 
 // Says that there are not as many highs as lows.
 fn tell_counts(words: &[u8], lows: usize, highs: usize, text: &mut [u8]) -> usize
     ensures { Says text.old 0 (counts_text (words_of words.now) lows highs) text.new result }
 {
-    let a = in_decimal(highs as u64);
-    let b = in_decimal(lows as u64);
-    let first = a.digits;
-    let second = b.digits;
     tell(
         text,
         b"@: # prices, and % has &\n",
-        value_of(words, HIGHS),
-        part(&first, a.from, 20),
-        value_of(words, LOWS),
-        part(&second, b.from, 20),
+        &[
+            Piece::Text(value_of(words, CommandOption::Highs)),
+            Piece::Number(highs as u64),
+            Piece::Text(value_of(words, CommandOption::Lows)),
+            Piece::Number(lows as u64),
+        ],
     )
 }
 
@@ -48,9 +45,8 @@ fn paint(
     if cells.len() < n {
         return told(2, tell_line(text, b"not enough memory for the cells\n"));
     }
-    let number = shade_quotes(edges, lows, highs, cells);
-    if number != 0 {
-        return refused(number, 0, text);
+    if let Err(why) = shade_quotes(edges, lows, highs, cells) {
+        return refused(why.number(), 0, text);
     }
     told(3, 0)
 }

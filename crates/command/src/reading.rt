@@ -11,8 +11,7 @@ ghost use Rattle.command.specs.SheetReads.{room_for, lent_sizes, refused_answer,
 use crate::check::check;
 use crate::run::tell_refused;
 use crate::{CommandAnswer, CommandSizes};
-use arguments::words::part;
-use messages::message::{in_decimal, tell};
+use messages::message::{Piece, tell};
 use reader::read::{read, read_sizes};
 use sheets::write::write_sheet;
 
@@ -30,33 +29,34 @@ fn room_for(numbers: usize) -> usize
 pub fn lent_sizes(file: &[u8]) -> CommandSizes
     ensures { result ≡ lent_sizes (sizes_for (first_applying (open_rows file.now)) file.now) }
 {
-    let sizes = read_sizes(file);
-    CommandSizes {
-        head_bytes: sizes.head_bytes as u64,
-        table_bytes: sizes.table_bytes as u64,
-        cell_numbers: sizes.cell_numbers as u64,
-        out_bytes: room_for(sizes.cell_numbers) as u64,
+    match read_sizes(file) {
+        Ok(sizes) => CommandSizes {
+            head_bytes: sizes.head_bytes as u64,
+            table_bytes: sizes.table_bytes as u64,
+            cell_numbers: sizes.cell_numbers as u64,
+            out_bytes: room_for(sizes.cell_numbers) as u64,
+        },
+        Err(_) => CommandSizes {
+            head_bytes: 0,
+            table_bytes: 0,
+            cell_numbers: 0,
+            out_bytes: 0,
+        },
     }
 }
 
 fn tell_read(width: u32, height: u32, depth: u32, bytes: usize, text: &mut [u8]) -> usize
     ensures { Says text.old 0 (filled (decimal width) (decimal height) (decimal depth) (decimal bytes) read_line) text.new result }
 {
-    let a = in_decimal(width as u64);
-    let b = in_decimal(height as u64);
-    let c = in_decimal(depth as u64);
-    let d = in_decimal(bytes as u64);
-    let first = a.digits;
-    let second = b.digits;
-    let third = c.digits;
-    let fourth = d.digits;
     tell(
         text,
         b"@ x #, % bits, sheet of & bytes\n",
-        part(&first, a.from, 20),
-        part(&second, b.from, 20),
-        part(&third, c.from, 20),
-        part(&fourth, d.from, 20),
+        &[
+            Piece::Number(u64::from(width)),
+            Piece::Number(u64::from(height)),
+            Piece::Number(u64::from(depth)),
+            Piece::Number(bytes as u64),
+        ],
     )
 }
 
@@ -91,10 +91,10 @@ fn sheet_out(
 ) -> CommandAnswer
     ensures { SheetOut file.now head.old table.old cells.old head.new table.new cells.new out.old out.new text.old text.new result }
 {
-    let reading = read(file, head, table, cells);
-    if reading.refusal != 0 {
-        return refused(reading.refusal, 0, text);
-    }
+    let reading = match read(file, head, table, cells) {
+        Ok(reading) => reading,
+        Err(why) => return refused(why.number(), 0, text),
+    };
     let line = reading.width as usize * columns_each(reading.depth);
     let count = line * reading.height as usize;
     let bound = room_for(count);

@@ -5,7 +5,6 @@ ghost use Rattle.arguments.specs.Words.{item_at, words_of};
 ghost use Rattle.leaves.specs.Formats.{written_name};
 ghost use Rattle.messages.specs.Checksum.{cksum};
 ghost use Rattle.messages.specs.Messages.{decimal, filled, Says};
-ghost use Rattle.planner.specs.Answers.{bound_bytes};
 ghost use Rattle.planner.specs.Calls.{called};
 ghost use Rattle.command.specs.Runs.{causes, too_long_of, too_long_line, written_line, refused_line, written_answer, written_text, Encodes, most_index, sheet_source, SheetRun, Runs, Ran};
 
@@ -14,37 +13,48 @@ use crate::check::{check, told};
 use crate::sample::sample_palette;
 use arguments::formats::written_name;
 use arguments::options::{
-    CSV, ICC, LINKED_ICC, MORE_FOLLOWS, OUT, SAMPLE_PALETTE, format_asked, has_palette, is_given,
-    options_asked, source_asked, value_of,
+    CommandOption, format_asked, has_palette, is_given, options_asked, source_asked, value_of,
 };
-use arguments::words::{both, item, part};
+use arguments::words::{both, item};
 use leaves::checks::below_product;
 use leaves::encoder::{EncodeSource, EncodedBmpFormat, written_names};
+use leaves::error::Refusal;
 use leaves::image::BmpPixelFormat;
 use messages::checksum::checksum;
-use messages::message::{in_decimal, tell, tell_line};
+use messages::message::{Piece, tell, tell_line};
 use planner::encoder::{Encoded, encode_into};
-use planner::plan::{SizeBound, encoded_size_bound};
-use sheets::{Sheet, cell_text, read_sheet};
+use planner::plan::encoded_size_bound;
+use sheets::{SheetError, cell_text, read_sheet};
 
 // ---- messages
 
 fn tell_too_long(bytes: usize, stride: usize, height: u32, text: &mut [u8]) -> usize
     ensures { Says text.old 0 (filled (decimal bytes) (decimal stride) (decimal height) [] too_long_line) text.new result }
 {
-    let a = in_decimal(bytes as u64);
-    let b = in_decimal(stride as u64);
-    let c = in_decimal(height as u64);
-    let first = a.digits;
-    let second = b.digits;
-    let third = c.digits;
     tell(
         text,
         b"the plane has @ bytes, more than stride # times height %: --more-follows allows more\n",
-        part(&first, a.from, 20),
-        part(&second, b.from, 20),
-        part(&third, c.from, 20),
-        b"",
+        &[
+            Piece::Number(bytes as u64),
+            Piece::Number(stride as u64),
+            Piece::Number(u64::from(height)),
+        ],
+    )
+}
+
+// A file's name, format, bytes and checksum.
+fn tell_file<'a>(name: &'a [u8], format: &'a [u8], file: &[u8], text: &mut [u8]) -> usize
+    ensures { Says text.old 0 (filled name.now format.now (decimal (length file.now)) (decimal (cksum file.now)) written_line) text.new result }
+{
+    tell(
+        text,
+        b"@: #, % bytes, cksum &\n",
+        &[
+            Piece::Text(name),
+            Piece::Text(format),
+            Piece::Number(file.len() as u64),
+            Piece::Number(u64::from(checksum(file))),
+        ],
     )
 }
 
@@ -52,18 +62,7 @@ fn tell_written(name: &[u8], format: EncodedBmpFormat, file: &[u8], text: &mut [
     ensures { Says text.old 0 (filled name.now (written_name format) (decimal (length file.now)) (decimal (cksum file.now)) written_line) text.new result }
 {
     let names = written_names();
-    let a = in_decimal(file.len() as u64);
-    let b = in_decimal(checksum(file) as u64);
-    let first = a.digits;
-    let second = b.digits;
-    tell(
-        text,
-        b"@: #, % bytes, cksum &\n",
-        name,
-        written_name(&names, format),
-        part(&first, a.from, 20),
-        part(&second, b.from, 20),
-    )
+    tell_file(name, written_name(&names, format), file, text)
 }
 
 // Says why something is refused, by the table's number.
@@ -93,76 +92,57 @@ pub(crate) fn tell_refused(number: u32, text: &mut [u8]) -> usize
         |a resolution is negative\
         |the edges are not 1 to 254 numbers, each above the one before\
         |a cell's low or high is not a number, or the low is above the high";
-    let a = in_decimal(number as u64);
-    let digits = a.digits;
     let cause = item(causes, number as usize, b'|');
     tell(
         text,
         b"refused, @: #\n",
-        part(&digits, a.from, 20),
-        cause,
-        b"",
-        b"",
+        &[Piece::Number(u64::from(number)), Piece::Text(cause)],
     )
 }
 
 // A place, counted from 1.
 fn from_one(place: usize) -> u64 {
-    if place < 0xFFFF_FFFF_FFFF_FFFF {
-        place as u64 + 1
-    } else {
-        place as u64
-    }
+    (place as u64).saturating_add(1)
 }
 
 // Says which cell of a sheet is no index.
-fn tell_cell(
-    name: &[u8],
+fn tell_cell<'a>(
+    name: &'a [u8],
     row: usize,
     column: usize,
-    cell: &[u8],
+    cell: &'a [u8],
     most: u8,
     text: &mut [u8],
 ) -> usize {
-    let lines = b"@: row #, column %: '&' is no index from 0 to 255\n|\
-        @: row #, column %: '&' is no index from 0 to 15\n|\
-        @: row #, column %: '&' is no index from 0 to 3\n|\
-        @: row #, column %: '&' is no index from 0 to 1\n";
-    let which = match most {
-        255 => 0,
-        15 => 1,
-        3 => 2,
-        _ => 3,
+    let line: &[u8] = match most {
+        255 => b"@: row #, column %: '&' is no index from 0 to 255\n",
+        15 => b"@: row #, column %: '&' is no index from 0 to 15\n",
+        3 => b"@: row #, column %: '&' is no index from 0 to 3\n",
+        _ => b"@: row #, column %: '&' is no index from 0 to 1\n",
     };
-    let a = in_decimal(from_one(row));
-    let b = in_decimal(from_one(column));
-    let first = a.digits;
-    let second = b.digits;
     tell(
         text,
-        item(lines, which, b'|'),
-        name,
-        part(&first, a.from, 20),
-        part(&second, b.from, 20),
-        cell,
+        line,
+        &[
+            Piece::Text(name),
+            Piece::Number(from_one(row)),
+            Piece::Number(from_one(column)),
+            Piece::Text(cell),
+        ],
     )
 }
 
 // Says which row of a sheet has another number of cells than the first.
 fn tell_ragged(name: &[u8], row: usize, count: usize, width: usize, text: &mut [u8]) -> usize {
-    let a = in_decimal(from_one(row));
-    let b = in_decimal(count as u64);
-    let c = in_decimal(width as u64);
-    let first = a.digits;
-    let second = b.digits;
-    let third = c.digits;
     tell(
         text,
         b"@: row # has % cells, and row 1 has &\n",
-        name,
-        part(&first, a.from, 20),
-        part(&second, b.from, 20),
-        part(&third, c.from, 20),
+        &[
+            Piece::Text(name),
+            Piece::Number(from_one(row)),
+            Piece::Number(count as u64),
+            Piece::Number(width as u64),
+        ],
     )
 }
 
@@ -172,10 +152,7 @@ fn tell_ragged(name: &[u8], row: usize, count: usize, width: usize, text: &mut [
 fn head_of<'a>(bytes: &'a [u8], n: usize) -> &'a [u8]
     ensures { result.now ≡ take n bytes.now }
 {
-    if n < bytes.len() {
-        return part(bytes, 0, n);
-    }
-    bytes
+    bytes.get(..n).unwrap_or(bytes)
 }
 
 // Whether there are more bytes than the rows take.
@@ -189,21 +166,17 @@ fn is_longer(bytes: usize, stride: usize, height: u32) -> bool
 }
 
 // Where the size query passes, whether a plane is too long, unless more may follow.
-fn is_too_long(bound: SizeBound, source: EncodeSource, bytes: usize, more: bool) -> bool
+fn is_too_long(
+    bound: Result<usize, Refusal>,
+    source: EncodeSource,
+    bytes: usize,
+    more: bool,
+) -> bool
     ensures { result ≡ too_long_of bound source bytes more }
 {
     match bound {
-        SizeBound::Bytes(n) => both(is_longer(bytes, source.stride, source.height), !more),
-        SizeBound::Refused(why) => false,
-    }
-}
-
-fn bound_bytes(bound: SizeBound) -> usize
-    ensures { result ≡ bound_bytes bound }
-{
-    match bound {
-        SizeBound::Bytes(n) => n,
-        SizeBound::Refused(why) => 0,
+        Ok(_) => both(is_longer(bytes, source.stride, source.height), !more),
+        Err(_) => false,
     }
 }
 
@@ -211,24 +184,29 @@ fn bound_bytes(bound: SizeBound) -> usize
 fn answer(
     words: &[u8],
     bound: usize,
-    encoded: Encoded,
+    encoded: Result<Encoded, Refusal>,
     out: &[u8],
     text: &mut [u8],
 ) -> CommandAnswer
     ensures { (result ≡ written_answer bound result.text encoded) × Says text.old 0 (written_text (words_of words.now) out.now encoded) text.new result.text }
 {
     match encoded {
-        Encoded::File(format, bytes) => {
-            let n = tell_written(value_of(words, OUT), format, head_of(out, bytes), text);
+        Ok(file) => {
+            let n = tell_written(
+                value_of(words, CommandOption::Out),
+                file.format,
+                head_of(out, file.bytes),
+                text,
+            );
             CommandAnswer {
-                bytes: bytes as u64,
+                bytes: file.bytes as u64,
                 bound: bound as u64,
                 text: n as u64,
                 status: 0,
                 refusal: 0,
             }
         }
-        Encoded::Refused(why) => {
+        Err(why) => {
             let number = why.number();
             let n = tell_refused(number, text);
             CommandAnswer {
@@ -256,14 +234,19 @@ fn encode<'a>(
 {
     let options = options_asked(words);
     let bound = encoded_size_bound(source, options, plane, palette, icc, linked_icc);
-    if is_too_long(bound, source, plane.len(), is_given(words, MORE_FOLLOWS)) {
+    if is_too_long(
+        bound,
+        source,
+        plane.len(),
+        is_given(words, CommandOption::MoreFollows),
+    ) {
         return told(
             2,
             tell_too_long(plane.len(), source.stride, source.height, text),
         );
     }
     let encoded = encode_into(source, options, plane, palette, icc, linked_icc, out, 0);
-    answer(words, bound_bytes(bound), encoded, out, text)
+    answer(words, bound.unwrap_or(0), encoded, out, text)
 }
 
 // ---- a sheet
@@ -290,11 +273,7 @@ fn most_index(format: BmpPixelFormat) -> u8
 fn at_most_32_bits(n: usize) -> u32
     ensures { result ≡ min n 0xFFFFFFFF }
 {
-    if n < 0xFFFF_FFFF {
-        n as u32
-    } else {
-        0xFFFF_FFFF
-    }
+    u32::try_from(n).unwrap_or(u32::MAX)
 }
 
 fn sheet_source(words: &[u8], width: usize, height: usize) -> EncodeSource
@@ -307,8 +286,8 @@ fn sheet_source(words: &[u8], width: usize, height: usize) -> EncodeSource
         height: at_most_32_bits(height),
         stride: width,
         has_palette: has_palette(words),
-        has_icc: is_given(words, ICC),
-        has_linked_icc: is_given(words, LINKED_ICC),
+        has_icc: is_given(words, CommandOption::Icc),
+        has_linked_icc: is_given(words, CommandOption::LinkedIcc),
     }
 }
 
@@ -325,14 +304,13 @@ fn run_sheet<'a>(
     ensures { SheetRun (words_of words.now) sheet.now palette.now icc.now linked_icc.now cells.old out.old out.new text.old text.new result }
 {
     let most = most_index(format_asked(words));
-    let read = read_sheet(sheet, most, cells);
-    match read {
-        Sheet::Rows(width, height, n) => {
-            let source = sheet_source(words, width, height);
+    match read_sheet(sheet, most, cells) {
+        Ok(grid) => {
+            let source = sheet_source(words, grid.width, grid.height);
             encode(
                 words,
                 source,
-                head_of(cells, n),
+                head_of(cells, grid.cells),
                 palette,
                 icc,
                 linked_icc,
@@ -340,20 +318,34 @@ fn run_sheet<'a>(
                 text,
             )
         }
-        Sheet::NotAnIndex(row, column, from, to) => {
+        Err(
+            SheetError::NotAnIndex {
+                row,
+                column,
+                from,
+                to,
+            },
+        ) => {
             let cell = cell_text(sheet, from, to, column);
             told(
                 2,
-                tell_cell(value_of(words, CSV), row, column, cell, most, text),
+                tell_cell(
+                    value_of(words, CommandOption::Csv),
+                    row,
+                    column,
+                    cell,
+                    most,
+                    text,
+                ),
             )
         }
-        Sheet::Ragged(row, count, width) => {
+        Err(SheetError::Ragged { row, count, width }) => {
             told(
                 2,
-                tell_ragged(value_of(words, CSV), row, count, width, text),
+                tell_ragged(value_of(words, CommandOption::Csv), row, count, width, text),
             )
         }
-        Sheet::NoRoom => told(
+        Err(SheetError::NoRoom) => told(
             2,
             tell_line(text, b"not enough memory for the sheet's cells\n"),
         ),
@@ -374,7 +366,7 @@ fn run_with<'a>(
 ) -> CommandAnswer
     ensures { Runs (is_given (numbered "--csv") (words_of words.now)) (words_of words.now) plane.now palette.now icc.now linked_icc.now cells.old out.old out.new text.old text.new result }
 {
-    if is_given(words, CSV) {
+    if is_given(words, CommandOption::Csv) {
         return run_sheet(words, plane, palette, icc, linked_icc, cells, out, text);
     }
     encode(
@@ -405,7 +397,7 @@ pub fn run<'a>(
     if checked.status != 3 {
         return checked;
     }
-    if is_given(words, SAMPLE_PALETTE) {
+    if is_given(words, CommandOption::SamplePalette) {
         let mixed = sample_palette();
         return run_with(words, plane, &mixed, icc, linked_icc, cells, out, text);
     }

@@ -48,10 +48,8 @@ pub fn sample_palette() -> [u8; 1024]
     ensures { (result ≡ sample_palette) × (length result ≡ 1024) }
 {
     let mut palette = [0u8; 1024];
-    let mut i = 0;
-    while i < 1024 {
+    for i in 0..1024 {
         palette[i] = shade(i);
-        i += 1;
     }
     palette
 }

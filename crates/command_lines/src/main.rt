@@ -136,28 +136,6 @@ fn run_files(rt: &(impl Files + Print), words: &[u8]) -> io::Result<()> {
     run_palette(rt, words, part(&plane, 0, n))
 }
 
-// The byte at a place; 0 past the end.
-fn byte_at(bytes: &[u8], at: usize) -> u64
-    ensures { result < 256 }
-{
-    if at < bytes.len() {
-        return bytes[at] as u64;
-    }
-    0
-}
-
-// The four bytes at a place, low byte first.
-fn dword(bytes: &[u8], at: usize) -> u64
-    requires { at < 4096 }
-    ensures { result < 4294967296 }
-{
-    let a = byte_at(bytes, at);
-    let b = byte_at(bytes, at + 1);
-    let c = byte_at(bytes, at + 2);
-    let d = byte_at(bytes, at + 3);
-    a + 256 * b + 65536 * c + 16777216 * d
-}
-
 // The double of a pattern, and one NaN for the pattern of any.
 fn double(bits: u64) -> f64 {
     if bits % 0x8000_0000_0000_0000 / 0x10_0000_0000_0000 != 2047 {
@@ -175,26 +153,19 @@ fn read_prices(
     words: &[u8],
     file: u32,
     prices: &mut [f64],
-) -> io::Result<usize>
-    requires { length prices.old ≡ 64 }
-{
-    let mut space = buffer();
-    let bytes: &mut [u8] = &mut space;
-    let n = read(rt, words, file, bytes)? / 8;
-    for k in 0..64 {
-        let low = dword(bytes, 8 * k);
-        let high = dword(bytes, 8 * k + 4);
-        prices[k] = double(low + 4294967296 * high);
+) -> io::Result<usize> {
+    let mut bytes = buffer();
+    let n = read(rt, words, file, &mut bytes)? / 8;
+    let (patterns, _) = bytes.as_chunks::<8>();
+    for (price, pattern) in prices.iter_mut().zip(patterns) {
+        *price = double(u64::from_le_bytes(*pattern));
     }
     Ok(n)
 }
 
 // The first n prices, or all.
 fn first<'a>(prices: &'a [f64], n: usize) -> &'a [f64] {
-    if n > prices.len() {
-        return prices;
-    }
-    &prices[0..n]
+    prices.get(..n).unwrap_or(prices)
 }
 
 fn run_prices(rt: &(impl Files + Print), words: &[u8]) -> io::Result<()> {
@@ -248,8 +219,8 @@ fn run_line(rt: &(impl Files + Print), line: &[u8]) -> io::Result<()> {
     if n >= words.len() {
         return Ok(());
     }
-    for i in 0..n {
-        words[i] = if line[i] == b' ' { 0 } else { line[i] };
+    for (word, byte) in words.iter_mut().zip(line) {
+        *word = if *byte == b' ' { 0 } else { *byte };
     }
     words[n] = 0;
     if n == 0 {

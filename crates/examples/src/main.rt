@@ -14,9 +14,9 @@ use leaves::image::BmpPixelFormat;
 use leaves::options::EncodeOptions;
 use leaves::types::row_stride;
 use leaves::widening::widening_table;
-use planner::encoder::{Encoded, encode_into};
-use planner::plan::{SizeBound, encoded_size_bound};
-use rows::rle::{encode_rle4_row, encode_rle8_row};
+use planner::encoder::encode_into;
+use planner::plan::encoded_size_bound;
+use rows::rle::{Rle, encode_rle_row};
 use std::io;
 
 fn number(rt: &impl Print, n: u64) -> io::Result<()> {
@@ -41,28 +41,29 @@ fn shown(rt: &impl Print, buf: &[u8], n: usize) -> io::Result<()> {
 }
 
 // A row's codes in a buffer of 512 bytes, which rows of at most 256 cells leave enough of.
-fn encode(row: &[u8], four: bool, buf: &mut [u8]) -> usize
+fn encode(row: &[u8], rle: Rle, buf: &mut [u8]) -> usize
     requires row_len_bound { length row.now ≤ 256 }
     requires in_bounds { 512 ≤ length buf.old }
     ensures { result ≤ length buf.new }
 {
-    if four {
-        return encode_rle4_row(row, buf, 0);
-    }
-    encode_rle8_row(row, buf, 0)
+    encode_rle_row(row, rle, buf, 0)
 }
 
-fn codes(rt: &impl Print, row: &[u8], four: bool) -> io::Result<()>
+fn codes(rt: &impl Print, row: &[u8], rle: Rle) -> io::Result<()>
     requires { length row.now ≤ 256 }
 {
     let mut space = [0u8; 512];
     let buf: &mut [u8] = &mut space;
-    let n = encode(row, four, buf);
+    let n = encode(row, rle, buf);
     bytes(rt, buf, n)
 }
 
 fn mask_check(rt: &impl Print, bpp: u16, masks: [u32; 4]) -> io::Result<()> {
-    number(rt, validate(bpp, masks).number() as u64)
+    let refusal = match validate(bpp, masks) {
+        Ok(()) => 0,
+        Err(why) => why.number(),
+    };
+    number(rt, refusal as u64)
 }
 
 // The sum of all samples fitted to n bits.
@@ -114,13 +115,11 @@ fn hashed(hash: u64, buf: &[u8], n: usize) -> u64
 
 // One of the three indices.
 fn index(digit: u32) -> u8 {
-    if digit == 0 {
-        return 0;
+    match digit {
+        0 => 0,
+        1 => 1,
+        _ => 17,
     }
-    if digit == 1 {
-        return 1;
-    }
-    17
 }
 
 // The row whose cells are the digits of n to the base 3.
@@ -137,7 +136,7 @@ fn nth_row(n: u32) -> [u8; 7]
 }
 
 // The hash of the codes of the rows of `width` cells, of which there are `count`.
-fn rows_hash(hash: u64, width: usize, count: u32, four: bool, buf: &mut [u8]) -> u64
+fn rows_hash(hash: u64, width: usize, count: u32, rle: Rle, buf: &mut [u8]) -> u64
     requires hash_bound { hash < 4294967291 }
     requires width_bound { width ≤ 7 }
     requires in_bounds { 512 ≤ length buf.old }
@@ -147,19 +146,19 @@ fn rows_hash(hash: u64, width: usize, count: u32, four: bool, buf: &mut [u8]) ->
     let mut h = hash;
     for n in 0..count {
         let row = nth_row(n);
-        let len = encode(&row[..width], four, buf);
+        let len = encode(&row[..width], rle, buf);
         h = hashed(h, buf, len);
     }
     h
 }
 
-fn all_rows(rt: &impl Print, four: bool) -> io::Result<()> {
+fn all_rows(rt: &impl Print, rle: Rle) -> io::Result<()> {
     let mut space = [0u8; 512];
     let buf: &mut [u8] = &mut space;
     let mut h: u64 = 0;
     let mut count: u32 = 3;
     for width in 1..=7 {
-        h = rows_hash(h, width, count, four, buf);
+        h = rows_hash(h, width, count, rle, buf);
         count = count % 1000000 * 3;
     }
     number(rt, h)
@@ -191,15 +190,15 @@ fn file(rt: &impl Print, width: u32, stride: usize, plane: &[u8]) -> io::Result<
     let none = [0u8; 0];
     let bound = encoded_size_bound(src, options, plane, &none, &none, &none);
     match bound {
-        SizeBound::Bytes(n) => number(rt, n as u64)?,
-        SizeBound::Refused(why) => number(rt, why.number() as u64)?,
+        Ok(n) => number(rt, n as u64)?,
+        Err(why) => number(rt, why.number() as u64)?,
     }
     let mut space = [0u8; 128];
     let out: &mut [u8] = &mut space;
     let answer = encode_into(src, options, plane, &none, &none, &none, out, 0);
     match answer {
-        Encoded::File(_, n) => shown(rt, out, n),
-        Encoded::Refused(why) => number(rt, why.number() as u64),
+        Ok(file) => shown(rt, out, file.bytes),
+        Err(why) => number(rt, why.number() as u64),
     }
 }
 
@@ -208,8 +207,8 @@ fn surface(plane: &mut [u8], step: usize)
     requires { 0 < step }
     ensures { length plane.new ≡ length plane.old }
 {
-    for i in 0..plane.len() {
-        plane[i] = ((i % 512 + i / 512) / step % 256) as u8;
+    for (i, cell) in plane.iter_mut().enumerate() {
+        *cell = ((i % 512 + i / 512) / step % 256) as u8;
     }
 }
 
@@ -230,12 +229,12 @@ fn limited(rt: &impl Print, plane: &[u8], rle: bool, out: &mut [u8]) -> io::Resu
     options.limit = 262144;
     let none = [0u8; 0];
     match encoded_size_bound(src, options, plane, &none, &none, &none) {
-        SizeBound::Bytes(n) => number(rt, n as u64)?,
-        SizeBound::Refused(why) => number(rt, why.number() as u64)?,
+        Ok(n) => number(rt, n as u64)?,
+        Err(why) => number(rt, why.number() as u64)?,
     }
     match encode_into(src, options, plane, &none, &none, &none, out, 0) {
-        Encoded::File(_, n) => number(rt, n as u64),
-        Encoded::Refused(why) => number(rt, why.number() as u64),
+        Ok(file) => number(rt, file.bytes as u64),
+        Err(why) => number(rt, why.number() as u64),
     }
 }
 
@@ -258,21 +257,15 @@ fn prices(list: &mut [f64], first: f64, step: f64)
     ensures { length list.new ≡ length list.old }
 {
     let mut price = first;
-    for i in 0..list.len() {
-        list[i] = price;
+    for place in list.iter_mut() {
+        *place = price;
         price = price + step;
     }
 }
 
 // How many cells are hatched.
 fn hatched(plane: &[u8]) -> u64 {
-    let mut count = 0u64;
-    for cell in plane {
-        if *cell == 255 {
-            count += 1;
-        }
-    }
-    count
+    plane.iter().filter(|cell| **cell == 255).count() as u64
 }
 
 // Paints quotes and prints the number, how many cells are hatched, and the checksum.
@@ -283,7 +276,11 @@ fn painted(
     highs: &[f64],
     plane: &mut [u8],
 ) -> io::Result<()> {
-    number(rt, shade_quotes(edges, lows, highs, plane) as u64)?;
+    let refusal = match shade_quotes(edges, lows, highs, plane) {
+        Ok(()) => 0,
+        Err(why) => why.number(),
+    };
+    number(rt, refusal as u64)?;
     number(rt, hatched(plane))?;
     number(rt, hashed(0, plane, plane.len()))
 }
@@ -321,21 +318,21 @@ fn quotes(rt: &impl Print) -> io::Result<()> {
 
 fn row_examples(rt: &impl Print) -> io::Result<()> {
     print!(rt; "M1")?;
-    codes(rt, &[5u8], false)?;
+    codes(rt, &[5u8], Rle::Rle8)?;
     print!(rt; "\nM2")?;
-    codes(rt, &[1u8, 2], false)?;
+    codes(rt, &[1u8, 2], Rle::Rle8)?;
     print!(rt; "\nM3")?;
-    codes(rt, &[1u8, 2, 3], false)?;
+    codes(rt, &[1u8, 2, 3], Rle::Rle8)?;
     print!(rt; "\nM4")?;
-    codes(rt, &[1u8, 2, 3, 3], false)?;
+    codes(rt, &[1u8, 2, 3, 3], Rle::Rle8)?;
     print!(rt; "\nM5")?;
-    codes(rt, &[7u8; 256], false)?;
+    codes(rt, &[7u8; 256], Rle::Rle8)?;
     print!(rt; "\nM6")?;
-    codes(rt, &[1u8, 2], true)?;
+    codes(rt, &[1u8, 2], Rle::Rle4)?;
     print!(rt; "\nM7")?;
-    codes(rt, &[1u8, 2, 3, 4, 5], true)?;
+    codes(rt, &[1u8, 2, 3, 4, 5], Rle::Rle4)?;
     print!(rt; "\nM8")?;
-    codes(rt, &[19u8, 3], true)
+    codes(rt, &[19u8, 3], Rle::Rle4)
 }
 
 fn main(rt: HostRuntime) -> io::Result<()> {
@@ -358,8 +355,8 @@ fn main(rt: HostRuntime) -> io::Result<()> {
     print!(rt; "\nfitted")?;
     sums(&rt)?;
     print!(rt; "\nrows")?;
-    all_rows(&rt, false)?;
-    all_rows(&rt, true)?;
+    all_rows(&rt, Rle::Rle8)?;
+    all_rows(&rt, Rle::Rle4)?;
     print!(rt; "\npanel")?;
     panel(&rt)?;
     print!(rt; "\nquotes")?;

@@ -12,9 +12,9 @@ use lib.Dec.{eqb, leb, ltb}
 use lib.IntN.{ℤ}
 use lib.ListN.{length, get_or}
 use lib.Pow.{pow_pos}
+use Rattle.std.proofs.Common.{Ok, is_some}
 use Rattle.leaves.specs.declared.encoder.EncodeSource.{EncodeSource}
 use Rattle.leaves.specs.declared.options.EncodeOptions.{EncodeOptions}
-use Rattle.leaves.specs.declared.error.Check.TheVariants.{Passed}
 use Rattle.leaves.specs.declared.error.Refusal.{Refusal}
 use Rattle.leaves.specs.declared.error.Refusal.TheVariants.{MaskSource, FileTooLarge, BufferTooShort, StreamOverBudget}
 use Rattle.leaves.specs.Lists.{cat}
@@ -28,6 +28,7 @@ use Rattle.format.proofs.Passing.{first_parts, row_parts, cat_parts, or_false, a
 use Rattle.format.specs.Accepted.{MasksAccepted, Accepted}
 use Rattle.format.specs.Input.{Input}
 use Rattle.leaves.proofs.Runs.{is_one_run_lem}
+use Rattle.leaves.specs.Options.{bitfields_in, calibrated_in}
 
 -- ---- masks
 
@@ -57,7 +58,7 @@ zero_apart masks zero n e = refl
 zero_apart masks (suc k) n e =
     rw (zero_apart masks k n e) (ap not (eq-eqb (bit_and (get_or masks k 0) n) 0 (ap (bit_and (get_or masks k 0)) e ∙ and_zero_r (get_or masks k 0))))
 
-mask_passes : (d : ℕ) (masks : List ℕ) (k : ℕ) → first_of (mask_rows d masks k) ≡ Passed → Passes d masks k
+mask_passes : (d : ℕ) (masks : List ℕ) (k : ℕ) → first_of (mask_rows d masks k) ≡ Ok tt → Passes d masks k
 unfolding mask_rows
 mask_passes d masks k e = go (eqb (get_or masks k 0) 0) refl
   where
@@ -91,7 +92,7 @@ apart_from masks (suc k) n j e h = go (eq-or-lt_of_le (le_of_suc-le-suc h)) (or_
     go (inr l) p rest = rest p.0 l
 
 -- the mask check's rows, passed
-pub masks_accepted : (d : ℕ) (masks : List ℕ) → first_of (bitfields_rows d masks) ≡ Passed → MasksAccepted d masks
+pub masks_accepted : (d : ℕ) (masks : List ℕ) → first_of (bitfields_rows d masks) ≡ Ok tt → MasksAccepted d masks
 unfolding bitfields_rows
 masks_accepted d masks e =
     let six = row_parts (mask_depth d) _ _ e in
@@ -106,7 +107,7 @@ masks_accepted d masks e =
 -- ---- the call
 
 -- 1 and 2 passed
-dimensions : (w h : ℕ) → first_of (dimension_rows w h) ≡ Passed → ((0 < w) × (w < 2147483648)) × ((0 < h) × (h < 2147483648))
+dimensions : (w h : ℕ) → first_of (dimension_rows w h) ≡ Ok tt → ((0 < w) × (w < 2147483648)) × ((0 < h) × (h < 2147483648))
 unfolding dimension_rows
 dimensions w h e =
     let one = row_parts (eqb w 0 || eqb h 0) _ _ e in
@@ -118,12 +119,12 @@ dimensions w h e =
     )
 
 -- 20 and 21 passed
-settings : (limit : ℕ) (x y : ℤ) → first_of (settings_rows limit x y) ≡ Passed → limit ≤ max_file
+settings : (limit : ℕ) (x y : ℤ) → first_of (settings_rows limit x y) ≡ Ok tt → limit ≤ max_file
 unfolding settings_rows
 settings limit x y e = ltb-false max_file limit (row_parts (ltb max_file limit) _ _ e).0
 
 -- 12 and 13 passed
-plane : (w h stride n bytes : ℕ) → first_of (plane_rows w h stride n bytes) ≡ Passed → (stride * h ≤ bytes) × (w * n ≤ stride)
+plane : (w h stride n bytes : ℕ) → first_of (plane_rows w h stride n bytes) ≡ Ok tt → (stride * h ≤ bytes) × (w * n ≤ stride)
 unfolding plane_rows
 plane w h stride n bytes e =
     let twelve = row_parts (ltb bytes (stride * h)) _ _ e in
@@ -131,13 +132,13 @@ plane w h stride n bytes e =
     (ltb-false bytes (stride * h) twelve.0, ltb-false stride (w * n) thirteen.0)
 
 -- 6 to 11 passed
-pub given_masks : (s : EncodeSource) (o : EncodeOptions) → first_of (given_masks_rows s o) ≡ Passed → o.has_bitfields ≡ true
-    → MasksAccepted o.bitfields.bpp o.bitfields.masks × (mask_source s.format ≡ false)
+pub given_masks : (s : EncodeSource) (o : EncodeOptions) → first_of (given_masks_rows s o) ≡ Ok tt → is_some o.bitfields ≡ true
+    → MasksAccepted (bitfields_in o).bpp (bitfields_in o).masks × (mask_source s.format ≡ false)
 unfolding given_masks_rows
 given_masks s o e q =
-    let rows = bitfields_rows o.bitfields.bpp o.bitfields.masks in
+    let rows = bitfields_rows (bitfields_in o).bpp (bitfields_in o).masks in
     let both = first_parts rows ((mask_source s.format, MaskSource) ∷ []) (rw q at e) in
-    (masks_accepted o.bitfields.bpp o.bitfields.masks both.0, (row_parts (mask_source s.format) _ _ both.1).0)
+    (masks_accepted (bitfields_in o).bpp (bitfields_in o).masks both.0, (row_parts (mask_source s.format) _ _ both.1).0)
 
 -- 14 and 16 passed: the file fits
 pub size_fits : (limit : ℕ) (i : Input) → file_too_large limit i ≡ false → stream_over_budget limit i ≡ false → stream_used limit i ≡ false → plain_size_of i ≤ limit
@@ -159,16 +160,16 @@ pub record ChecksPassed (s : EncodeSource) (o : EncodeOptions) (plane_bytes : �
   pub limited : o.limit ≤ max_file
   pub rows_inside : s.width * bytes_per_pixel s.format ≤ s.stride
   pub plane_long : s.stride * s.height ≤ plane_bytes
-  pub masks : o.has_bitfields ≡ true → MasksAccepted o.bitfields.bpp o.bitfields.masks
-  pub samples : o.has_bitfields ≡ true → mask_source s.format ≡ false
+  pub masks : is_some o.bitfields ≡ true → MasksAccepted (bitfields_in o).bpp (bitfields_in o).masks
+  pub samples : is_some o.bitfields ≡ true → mask_source s.format ≡ false
 
-pub checks_passed : (s : EncodeSource) (o : EncodeOptions) (plane_bytes palette_bytes : ℕ) → first_of (check_rows s o plane_bytes palette_bytes) ≡ Passed → ChecksPassed s o plane_bytes
+pub checks_passed : (s : EncodeSource) (o : EncodeOptions) (plane_bytes palette_bytes : ℕ) → first_of (check_rows s o plane_bytes palette_bytes) ≡ Ok tt → ChecksPassed s o plane_bytes
 unfolding check_rows
 checks_passed s o plane_bytes palette_bytes e =
     let dimension = dimension_rows s.width s.height in
     let setting = settings_rows o.limit o.x_pels_per_meter o.y_pels_per_meter in
     let palette = palette_rows (is_indexed s.format) s.has_palette palette_bytes in
-    let modes = mode_rows o.has_bitfields o.has_calibrated_rgb (profile_mode s.has_linked_icc s.has_icc o.embed_icc) in
+    let modes = mode_rows (is_some o.bitfields) (is_some o.calibrated_rgb) (profile_mode s.has_linked_icc s.has_icc o.embed_icc) in
     let masks = given_masks_rows s o in
     let a12 = first_parts (dimension ++ setting ++ palette ++ modes ++ masks) (plane_rows s.width s.height s.stride (bytes_per_pixel s.format) plane_bytes) e in
     let a6 = first_parts (dimension ++ setting ++ palette ++ modes) masks a12.0 in
@@ -194,7 +195,7 @@ checks_passed s o plane_bytes palette_bytes e =
 abbrev pub Checked : Input → Type 0
 Checked i = ChecksPassed i.source i.options (length i.plane)
 
-pub checked : (i : Input) → first_of (call_rows i) ≡ Passed → Checked i
+pub checked : (i : Input) → first_of (call_rows i) ≡ Ok tt → Checked i
 checked i = checks_passed i.source i.options (length i.plane) (length i.palette)
 
 -- the stored rows of a call that 1 to 13 pass have the raw bytes
@@ -202,14 +203,14 @@ pub rows_long : (i : Input) → Checked i → length (stored_rows_of i) ≡ raw_
 rows_long i k = length_rows_lem i k.masks k.samples
 
 -- 1 to 14 passed
-pub plan_passed : (i : Input) → first_of (plan_rows (limit_in i) i) ≡ Passed → Checked i × (file_too_large (limit_in i) i ≡ false)
+pub plan_passed : (i : Input) → first_of (plan_rows (limit_in i) i) ≡ Ok tt → Checked i × (file_too_large (limit_in i) i ≡ false)
 unfolding plan_rows
 plan_passed i e =
     let both = first_parts (call_rows i) ((file_too_large (limit_in i) i, FileTooLarge) ∷ []) e in
     (checked i both.0, (row_parts (file_too_large (limit_in i) i) FileTooLarge (first_of []) both.1).0)
 
 -- 1 to 16 passed: the file keeps to the limit
-pub keeps_limit : (i : Input) (room offset : ℕ) → first_of (write_rows (limit_in i) i room offset) ≡ Passed → Checked i × (file_size_of (limit_in i) i ≤ limit_in i)
+pub keeps_limit : (i : Input) (room offset : ℕ) → first_of (write_rows (limit_in i) i room offset) ≡ Ok tt → Checked i × (file_size_of (limit_in i) i ≤ limit_in i)
 unfolding write_rows
 keeps_limit i room offset e =
     let writing : List (Bool × Refusal) = (buffer_too_short (limit_in i) i room offset, BufferTooShort) ∷ (stream_over_budget (limit_in i) i, StreamOverBudget) ∷ [] in
@@ -220,8 +221,8 @@ keeps_limit i room offset e =
 
 -- a call that no row of the table refuses
 pub accepted : (i : Input) (room offset : ℕ) → ((k : ℕ) → get_or i.plane k 0 < 256) → ((k : ℕ) → get_or i.palette k 0 < 256)
-    → length i.options.calibrated_rgb.endpoints ≡ 9 → length i.options.calibrated_rgb.gamma ≡ 3
-    → first_of (write_rows (limit_in i) i room offset) ≡ Passed → Accepted i
+    → length (calibrated_in i.options).endpoints ≡ 9 → length (calibrated_in i.options).gamma ≡ 3
+    → first_of (write_rows (limit_in i) i room offset) ≡ Ok tt → Accepted i
 accepted i room offset plane_bytes_is palette_bytes_is nine three e =
     let passed = keeps_limit i room offset e in
     let k = passed.0 in

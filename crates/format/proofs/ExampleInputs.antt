@@ -1,10 +1,11 @@
 -- What the examples hand in: pictures of one row, and the Rust's default options with a choice changed.
--- An absent set of masks or of calibrated colour may hold stray numbers, which are ignored.
 use mathlib.Core.Bool.{Bool, true, false}
 use mathlib.Core.List.{List, []}
 use Prim.Native.Nat.{ℕ}
 use lib.IntN.{ℤ, pos}
 use lib.ListN.{replicate}
+use Rattle.std.proofs.Common.{Option, Some, None}
+use Rattle.std.specs.Bool.{then_some}
 use Rattle.leaves.specs.declared.bitfields.BmpBitfields.{BmpBitfields}
 use Rattle.leaves.specs.declared.image.BmpPixelFormat.{BmpPixelFormat}
 use Rattle.leaves.specs.declared.image.BmpPixelFormat.TheVariants.{Pal8}
@@ -28,17 +29,15 @@ one_row format width stride palette icc linked =
     }
 
 -- top-down, minimal palette, RLE, masks, intent, calibrated colour
-abbrev pub chosen : Bool → Bool → Bool → Bool → BmpBitfields → ℕ → Bool → CalibratedRgb → EncodeOptions
-chosen is_top_down minimal rle has_masks masks intent has_calibrated calibrated =
+abbrev pub chosen : Bool → Bool → Bool → Option BmpBitfields → ℕ → Option CalibratedRgb → EncodeOptions
+chosen is_top_down minimal rle masks intent calibrated =
     record {
       top_down = is_top_down;
       minimal_palette = minimal;
       rle = rle;
-      has_bitfields = has_masks;
       bitfields = masks;
       embed_icc = true;
       rendering_intent = intent;
-      has_calibrated_rgb = has_calibrated;
       calibrated_rgb = calibrated;
       limit = defaults.limit;
       x_pels_per_meter = defaults.x_pels_per_meter;
@@ -47,24 +46,21 @@ chosen is_top_down minimal rle has_masks masks intent has_calibrated calibrated 
 
 -- a minimal palette; top-down or not, RLE on or off
 abbrev pub with_minimal : Bool → Bool → EncodeOptions
-with_minimal is_top_down rle = chosen is_top_down true rle false defaults.bitfields 4 false defaults.calibrated_rgb
+with_minimal is_top_down rle = chosen is_top_down true rle None 4 None
 
--- what stands where no masks and no calibrated colour are given
-abbrev pub stray_masks : BmpBitfields
-stray_masks = record { bpp = 16; masks = replicate 4 1 }
-
-abbrev pub stray_calibrated : CalibratedRgb
-stray_calibrated = record { endpoints = replicate 9 (pos 1); gamma = replicate 3 1 }
+-- any calibrated colour
+abbrev pub some_calibrated : CalibratedRgb
+some_calibrated = record { endpoints = replicate 9 (pos 1); gamma = replicate 3 1 }
 
 abbrev pub with_intent : ℕ → EncodeOptions
-with_intent n = chosen false false true false stray_masks n false stray_calibrated
+with_intent n = chosen false false true None n None
 
 -- masks of a depth; calibrated colour beside them or not
 abbrev pub with_masks : ℕ → List ℕ → Bool → EncodeOptions
-with_masks depth masks calibrated = chosen false false true true (record { bpp = depth; masks = masks }) 4 calibrated stray_calibrated
+with_masks depth masks calibrated = chosen false false true (Some (record { bpp = depth; masks = masks })) 4 (then_some calibrated some_calibrated)
 
 abbrev pub with_calibrated : List ℤ → List ℕ → EncodeOptions
-with_calibrated endpoints gamma = chosen false false true false stray_masks 4 true (record { endpoints = endpoints; gamma = gamma })
+with_calibrated endpoints gamma = chosen false false true None 4 (Some (record { endpoints = endpoints; gamma = gamma }))
 
 abbrev pub call : EncodeSource → EncodeOptions → List ℕ → List ℕ → List ℕ → List ℕ → Input
 call source options plane palette icc linked =
@@ -78,11 +74,9 @@ with_settings limit x y i =
       top_down = i.options.top_down;
       minimal_palette = i.options.minimal_palette;
       rle = i.options.rle;
-      has_bitfields = i.options.has_bitfields;
       bitfields = i.options.bitfields;
       embed_icc = i.options.embed_icc;
       rendering_intent = i.options.rendering_intent;
-      has_calibrated_rgb = i.options.has_calibrated_rgb;
       calibrated_rgb = i.options.calibrated_rgb;
       limit = limit;
       x_pels_per_meter = x;

@@ -11,6 +11,7 @@ use lib.Count.{count_trailing_zeros}
 use lib.Dec.{eqb}
 use lib.ListN.{length, get_or}
 use lib.Pow.{pow_mono}
+use Rattle.std.proofs.Common.{is_some}
 use Rattle.leaves.specs.declared.image.BmpPixelFormat.{BmpPixelFormat}
 use Rattle.leaves.specs.declared.image.BmpPixelFormat.TheVariants.{Rgba, Rgb24, Bgra, Bgr24, Rgb555, Rgb565, Pal8, Indexed4, Indexed2, Indexed1}
 use Rattle.format.specs.File.{depth_in, pack_in, raw_bytes, head_bytes_of, tail_of, stream_of, budget, stream_used, stored_rows_of, pixels, file_size_of, plain_size_of}
@@ -23,6 +24,7 @@ use Rattle.rows.specs.StoredRows.{pack_bits, LayoutOk, PackOk}
 use Rattle.format.specs.Accepted.{MasksAccepted}
 use Rattle.format.specs.Input.{Input}
 use Rattle.leaves.proofs.Runs.{ends_within, len_run, count-zero}
+use Rattle.leaves.specs.Options.{bitfields_in}
 use Rattle.rows.proofs.AllRows.{length-stored_rows}
 
 -- masks have cells of at most 32 bits
@@ -85,19 +87,19 @@ plain_ok Indexed2 = (refl, refl)
 plain_ok Indexed1 = (refl, refl)
 
 -- the pack of a call whose masks, if given, were accepted
-pub pack_ok : (i : Input) → (i.options.has_bitfields ≡ true → MasksAccepted i.options.bitfields.bpp i.options.bitfields.masks)
-    → (i.options.has_bitfields ≡ true → mask_source i.source.format ≡ false) → PackOk (pack_in i) × (pack_bits (pack_in i) ≡ depth_in i)
+pub pack_ok : (i : Input) → (is_some i.options.bitfields ≡ true → MasksAccepted (bitfields_in i.options).bpp (bitfields_in i.options).masks)
+    → (is_some i.options.bitfields ≡ true → mask_source i.source.format ≡ false) → PackOk (pack_in i) × (pack_bits (pack_in i) ≡ depth_in i)
 unfolding pack_of depth_of channels_of
-pack_ok i a s = go i.options.has_bitfields a s
+pack_ok i a s = go (is_some i.options.bitfields) a s
   where
     f : BmpPixelFormat
     f = i.source.format
 
     d : ℕ
-    d = i.options.bitfields.bpp
+    d = (bitfields_in i.options).bpp
 
     masks : List ℕ
-    masks = i.options.bitfields.masks
+    masks = (bitfields_in i.options).masks
 
     go : (b : Bool) → (b ≡ true → MasksAccepted d masks) → (b ≡ true → mask_source f ≡ false)
         → PackOk (cond b (mask_pack f d masks) (plain_pack f)) × (pack_bits (cond b (mask_pack f d masks) (plain_pack f)) ≡ cond b d (bits_per_pixel f))
@@ -105,8 +107,8 @@ pack_ok i a s = go i.options.has_bitfields a s
     go false k l = plain_ok f
 
 -- "the raw bytes are the stored row's length × height"
-pub length_rows_lem : (i : Input) → (i.options.has_bitfields ≡ true → MasksAccepted i.options.bitfields.bpp i.options.bitfields.masks)
-    → (i.options.has_bitfields ≡ true → mask_source i.source.format ≡ false) → length (stored_rows_of i) ≡ raw_bytes i
+pub length_rows_lem : (i : Input) → (is_some i.options.bitfields ≡ true → MasksAccepted (bitfields_in i.options).bpp (bitfields_in i.options).masks)
+    → (is_some i.options.bitfields ≡ true → mask_source i.source.format ≡ false) → length (stored_rows_of i) ≡ raw_bytes i
 unfolding stored_rows_of raw_len
 length_rows_lem i a s =
     let k = pack_ok i a s in

@@ -9,6 +9,7 @@ use borrow.Author.Tests.{ltb-true}
 use lib.Dec.{ltb, eqb}
 use lib.ListN.{length, drop, length-append}
 use lib.Seq.{drop_at}
+use Rattle.std.proofs.Common.{is_some}
 use Rattle.leaves.specs.declared.encoder.EncodeSource.{EncodeSource}
 use Rattle.leaves.specs.declared.options.EncodeOptions.{EncodeOptions}
 use Rattle.leaves.specs.declared.image.BmpPixelFormat.{BmpPixelFormat}
@@ -28,6 +29,7 @@ use Rattle.format.specs.Accepted.{Accepted}
 use Rattle.format.specs.Readers.{word_at, dword_at, Fields, fields_of}
 use Rattle.leaves.proofs.ListLaws.{length-cat}
 use Rattle.leaves.proofs.TableCounts.{entries_le}
+use Rattle.leaves.specs.Options.{bitfields_in}
 
 -- ---- numbers
 
@@ -77,7 +79,7 @@ compression_le : (i : Input) → compression_of (limit_in i) i ≤ 6
 unfolding compression_of rows_compression
 compression_le i =
     choice_le (stream_used (limit_in i) i) _ _ 6 (choice_le (eqb (bits_per_pixel i.source.format) 8) 1 2 6 (omega arith) (omega arith))
-    (choice_le i.options.has_bitfields _ _ 6 (choice_le (has_alpha_mask i.options.bitfields.masks) 6 3 6 (omega arith) (omega arith))
+    (choice_le (is_some i.options.bitfields) _ _ 6 (choice_le (has_alpha_mask (bitfields_in i.options).masks) 6 3 6 (omega arith) (omega arith))
     (choice_le (is_rgb565 i.source.format) 3 0 6 (omega arith) (omega arith)))
 
 -- a stored height has 32 bits
@@ -99,12 +101,12 @@ bits_le Indexed2 = omega arith
 bits_le Indexed1 = omega arith
 
 -- an accepted depth is at most 32
-pub depth_le : (s : EncodeSource) (o : EncodeOptions) → (o.has_bitfields ≡ true → (o.bitfields.bpp ≡ 16) ⊎ (o.bitfields.bpp ≡ 32)) → depth_of s o ≤ 32
+pub depth_le : (s : EncodeSource) (o : EncodeOptions) → (is_some o.bitfields ≡ true → ((bitfields_in o).bpp ≡ 16) ⊎ ((bitfields_in o).bpp ≡ 32)) → depth_of s o ≤ 32
 unfolding depth_of
-depth_le s o deep = go o.has_bitfields deep
+depth_le s o deep = go (is_some o.bitfields) deep
   where
-    go : (b : Bool) → (b ≡ true → (o.bitfields.bpp ≡ 16) ⊎ (o.bitfields.bpp ≡ 32)) → cond b o.bitfields.bpp (bits_per_pixel s.format) ≤ 32
-    go true d = masked_depth o.bitfields.bpp (d refl)
+    go : (b : Bool) → (b ≡ true → ((bitfields_in o).bpp ≡ 16) ⊎ ((bitfields_in o).bpp ≡ 32)) → cond b (bitfields_in o).bpp (bits_per_pixel s.format) ≤ 32
+    go true d = masked_depth (bitfields_in o).bpp (d refl)
     go false d = bits_le s.format
 
 -- the count of colours is at most 256

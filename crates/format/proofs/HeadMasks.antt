@@ -5,6 +5,7 @@ use mathlib.Core.List.{List, [], ◌∷◌, ◌++◌, append_assoc}
 use Prim.Native.Nat.{ℕ, ◌+◌, ◌-◌, ◌<◌}
 use native.Mathlib.Omega.{arith}
 use lib.ListN.{length, get_or, replicate}
+use Rattle.std.proofs.Common.{is_some}
 use Rattle.leaves.specs.declared.image.BmpPixelFormat.TheVariants.{Rgb565}
 use Rattle.leaves.specs.Bytes.{le16, le32}
 use Rattle.leaves.specs.Masks.{has_alpha_mask}
@@ -13,6 +14,7 @@ use Rattle.format.specs.Input.{Input}
 use Rattle.format.specs.File.{mode_in, raw_bytes, head_bytes_of, tail_of, limit_in, pixels, colour_table, file_size_of, file_of}
 use Rattle.format.specs.Layout.{is_masked, long_masks, mask_tail, head_rest}
 use Rattle.leaves.specs.Formats.{is_rgb565, mask_source}
+use Rattle.leaves.specs.Options.{bitfields_in, calibrated_in}
 use Rattle.format.specs.declared.layout.Mode.{Mode}
 use Rattle.format.specs.declared.layout.Mode.TheVariants.{Masked, Calibrated, Profiled, Plain}
 use Rattle.format.proofs.Modes.{given_mode, mask_mode}
@@ -70,27 +72,27 @@ module _ (i : Input) where
 
   module _ (a : Accepted i) where
     -- every mask has 32 bits
-    small : i.options.has_bitfields ≡ true → (k : ℕ) → k < 4 → get_or i.options.bitfields.masks k 0 < 4294967296
-    small e = mask_lt i.options.bitfields.bpp i.options.bitfields.masks (a.masks e)
+    small : is_some i.options.bitfields ≡ true → (k : ℕ) → k < 4 → get_or (bitfields_in i.options).masks k 0 < 4294967296
+    small e = mask_lt (bitfields_in i.options).bpp (bitfields_in i.options).masks (a.masks e)
 
     -- the colour masks are the ones handed in
-    pub masks_read : i.options.has_bitfields ≡ true
-        → ColourMasks (file_of (limit_in i) i) (get_or i.options.bitfields.masks 0 0) (get_or i.options.bitfields.masks 1 0) (get_or i.options.bitfields.masks 2 0)
+    pub masks_read : is_some i.options.bitfields ≡ true
+        → ColourMasks (file_of (limit_in i) i) (get_or (bitfields_in i.options).masks 0 0) (get_or (bitfields_in i.options).masks 1 0) (get_or (bitfields_in i.options).masks 2 0)
     unfolding head_rest
     masks_read e =
-        rw (mode_file Masked (mask_mode i e), mask_bytes i.options.bitfields.masks after_rest)
-        (behind i (file_size_of (limit_in i) i) (get_or i.options.bitfields.masks 0 0) (get_or i.options.bitfields.masks 1 0) (get_or i.options.bitfields.masks 2 0)
-        (dwords (cond (has_alpha_mask i.options.bitfields.masks) (get_or i.options.bitfields.masks 3 0 ∷ []) []) ++ after_rest)
+        rw (mode_file Masked (mask_mode i e), mask_bytes (bitfields_in i.options).masks after_rest)
+        (behind i (file_size_of (limit_in i) i) (get_or (bitfields_in i.options).masks 0 0) (get_or (bitfields_in i.options).masks 1 0) (get_or (bitfields_in i.options).masks 2 0)
+        (dwords (cond (has_alpha_mask (bitfields_in i.options).masks) (get_or (bitfields_in i.options).masks 3 0 ∷ []) []) ++ after_rest)
         (small e 0 (omega arith)) (small e 1 (omega arith)) (small e 2 (omega arith)))
 
     -- and so is a nonzero alpha mask
-    pub alpha_read : i.options.has_bitfields ≡ true → has_alpha_mask i.options.bitfields.masks ≡ true
-        → dword_at (file_of (limit_in i) i) 66 ≡ get_or i.options.bitfields.masks 3 0
+    pub alpha_read : is_some i.options.bitfields ≡ true → has_alpha_mask (bitfields_in i.options).masks ≡ true
+        → dword_at (file_of (limit_in i) i) 66 ≡ get_or (bitfields_in i.options).masks 3 0
     unfolding head_rest
     alpha_read e h =
-        rw (mode_file Masked (mask_mode i e), alpha_bytes i.options.bitfields.masks after_rest h)
-        (fourth i (file_size_of (limit_in i) i) (get_or i.options.bitfields.masks 0 0) (get_or i.options.bitfields.masks 1 0) (get_or i.options.bitfields.masks 2 0)
-        (get_or i.options.bitfields.masks 3 0) after_rest (small e 3 (omega arith)))
+        rw (mode_file Masked (mask_mode i e), alpha_bytes (bitfields_in i.options).masks after_rest h)
+        (fourth i (file_size_of (limit_in i) i) (get_or (bitfields_in i.options).masks 0 0) (get_or (bitfields_in i.options).masks 1 0) (get_or (bitfields_in i.options).masks 2 0)
+        (get_or (bitfields_in i.options).masks 3 0) after_rest (small e 3 (omega arith)))
 
 -- ---- Rgb565
 
@@ -112,7 +114,7 @@ mode_565 : (i : Input) (n size at : ℕ) (more : List ℕ) (m : Mode) → is_mas
 unfolding head_rest
 mode_565 i n size at more Masked never e = absurd (false≢true (sym never))
 mode_565 i n size at more Calibrated never e =
-    long_masks_lem i n (long_masks i.source.format) 0 (longs i.options.calibrated_rgb.endpoints) i.options.calibrated_rgb.gamma more (ap long_masks e)
+    long_masks_lem i n (long_masks i.source.format) 0 (longs (calibrated_in i.options).endpoints) (calibrated_in i.options).gamma more (ap long_masks e)
 mode_565 i n size at more Profiled never e =
     rw (append_assoc (v4_fields (long_masks i.source.format) (cond i.source.has_linked_icc 0x4C494E4B 0x4D424544) (replicate 9 0) (replicate 3 0)))
     (long_masks_lem i n (long_masks i.source.format) (cond i.source.has_linked_icc 0x4C494E4B 0x4D424544) (replicate 9 0) (replicate 3 0)
@@ -126,6 +128,6 @@ rgb565_read i a e =
     rw (mode_file i (mode_in i) refl)
     (mode_565 i (file_size_of (limit_in i) i) (length (tail_of i)) (head_bytes_of i - 14 + raw_bytes i) (after_rest i) (mode_in i) (unmasked (is_masked (mode_in i)) (given_mode i.source i.options)) e)
   where
-    unmasked : (b : Bool) → i.options.has_bitfields ≡ b → b ≡ false
+    unmasked : (b : Bool) → is_some i.options.bitfields ≡ b → b ≡ false
     unmasked true q = absurd (false≢true (sym (a.samples q) ∙ ap mask_source e))
     unmasked false q = refl

@@ -12,6 +12,7 @@ use lib.ListN.{length, get_or, replicate, length-append, length-map, get_or-appe
 use lib.Seq.{get_or-append-add}
 use mir.Syntax.{w32}
 use mir.Val.{of_z}
+use Rattle.std.proofs.Common.{is_some}
 use Rattle.leaves.specs.declared.encoder.EncodeSource.{EncodeSource}
 use Rattle.leaves.specs.declared.options.EncodeOptions.{EncodeOptions}
 use Rattle.leaves.specs.declared.image.BmpPixelFormat.{BmpPixelFormat}
@@ -34,6 +35,7 @@ use Rattle.format.specs.Shown.{rgb}
 use Rattle.format.specs.Readers.{Fields, fields_of, table_count, palette_of}
 use Rattle.leaves.proofs.ListLaws.{tab_ext, get_or-cat}
 use Rattle.leaves.proofs.TableCounts.{entries_le, written_le, written_some}
+use Rattle.leaves.specs.Options.{bitfields_in, calibrated_in}
 
 -- ---- lengths of the longer headers
 
@@ -73,13 +75,13 @@ unfolding longs
 longs-length zs = length-map zs (of_z w32)
 
 -- without masks, the header ends where the table begins
-pub header_fills : (s : EncodeSource) (o : EncodeOptions) → length o.calibrated_rgb.endpoints ≡ 9 → length o.calibrated_rgb.gamma ≡ 3 → (m : Mode) → is_masked m ≡ false
+pub header_fills : (s : EncodeSource) (o : EncodeOptions) → length (calibrated_in o).endpoints ≡ 9 → length (calibrated_in o).gamma ≡ 3 → (m : Mode) → is_masked m ≡ false
     → 54 + length (head_rest m s o 0 0) ≡ 14 + header_size_of m s.format
 unfolding head_rest v5_fields le32
 header_fills s o nine three Masked never = absurd (false≢true (sym never))
 header_fills s o nine three Calibrated never =
-    rw (v4_length (long_masks s.format) 0 (longs o.calibrated_rgb.endpoints) o.calibrated_rgb.gamma
-    (four_masks s.format) (longs-length o.calibrated_rgb.endpoints ∙ nine) three)
+    rw (v4_length (long_masks s.format) 0 (longs (calibrated_in o).endpoints) (calibrated_in o).gamma
+    (four_masks s.format) (longs-length (calibrated_in o).endpoints ∙ nine) three)
 header_fills s o nine three Profiled never =
     simp (
       length-append,
@@ -187,19 +189,19 @@ no_entries false n never = refl
 
 module _ (i : Input) (a : Accepted i) where
   -- masks have no indexed source
-  no_masks : is_indexed i.source.format ≡ true → (b : Bool) → i.options.has_bitfields ≡ b → b ≡ false
+  no_masks : is_indexed i.source.format ≡ true → (b : Bool) → is_some i.options.bitfields ≡ b → b ≡ false
   no_masks e true m = absurd (indexed_refused i.source.format e (a.samples m))
   no_masks e false m = refl
 
   -- by whether masks are given
   entry_count : count_in (depth_in i) (clr_used_of (depth_in i) (entries_of i)) ≡ entries_of i
   unfolding table_entries depth_of
-  entry_count = go i.options.has_bitfields refl
+  entry_count = go (is_some i.options.bitfields) refl
     where
-      go : (b : Bool) → i.options.has_bitfields ≡ b
-          → count_in (cond b i.options.bitfields.bpp (bits_per_pixel i.source.format)) (clr_used_of (cond b i.options.bitfields.bpp (bits_per_pixel i.source.format)) (entries_of i)) ≡ entries_of i
+      go : (b : Bool) → is_some i.options.bitfields ≡ b
+          → count_in (cond b (bitfields_in i.options).bpp (bits_per_pixel i.source.format)) (clr_used_of (cond b (bitfields_in i.options).bpp (bits_per_pixel i.source.format)) (entries_of i)) ≡ entries_of i
       go true e =
-          deep_count i.options.bitfields.bpp (clr_used_of i.options.bitfields.bpp (entries_of i)) (a.masks e).depths
+          deep_count (bitfields_in i.options).bpp (clr_used_of (bitfields_in i.options).bpp (entries_of i)) (a.masks e).depths
           ∙ sym (no_entries (is_indexed i.source.format) (written_palette_entries (bits_per_pixel i.source.format) (length i.palette / 4) i.options.minimal_palette)
           (λ h. false≢true (sym (no_masks h true e))))
       go false e = plain-count i.source.format (length i.palette / 4) i.options.minimal_palette

@@ -6,6 +6,7 @@ use Prim.Native.Nat.{ℕ, ◌+◌, ◌≤◌}
 use native.Mathlib.Omega.{arith}
 use lib.Dec.{eqb}
 use lib.ListN.{length, get_or}
+use Rattle.std.proofs.Common.{is_some}
 use Rattle.leaves.specs.declared.image.BmpPixelFormat.{BmpPixelFormat}
 use Rattle.leaves.specs.Bytes.{le32}
 use Rattle.format.specs.File.{mode_in, entries_of, limit_in, stream_used, compression_of, file_size_of, file_of, head_bytes_of}
@@ -17,6 +18,7 @@ use Rattle.format.proofs.Modes.{given_mode, mask_mode}
 use Rattle.format.proofs.HeadFields.{length_file, fields_read}
 use Rattle.format.proofs.HeadTable.{header_fills, count-read}
 use Rattle.leaves.specs.Masks.{has_alpha_mask, mask_compression}
+use Rattle.leaves.specs.Options.{bitfields_in}
 use Rattle.format.specs.Headers.{dwords}
 use Rattle.format.specs.Input.{Input}
 use Rattle.format.specs.Accepted.{Accepted}
@@ -63,12 +65,12 @@ module _ (i : Input) (a : Accepted i) where
   -- the masks stand in the head
   masks_inside : masks_end (compression_of (limit_in i) i) ≤ 54 + rest_bytes
   unfolding compression_of rows_compression head_rest mask_tail
-  masks_inside = go (stream_used (limit_in i) i) i.options.has_bitfields refl
+  masks_inside = go (stream_used (limit_in i) i) (is_some i.options.bitfields) refl
     where
       masks : List ℕ
-      masks = i.options.bitfields.masks
+      masks = (bitfields_in i.options).masks
 
-      go : (used given : Bool) → i.options.has_bitfields ≡ given
+      go : (used given : Bool) → is_some i.options.bitfields ≡ given
           → masks_end (cond used (cond (eqb (bits_per_pixel i.source.format) 8) 1 2) (cond given (mask_compression masks) (plain_compression i.source.format))) ≤ 54 + rest_bytes
       go true given e = omega (arith, stream_end (eqb (bits_per_pixel i.source.format) 8))
       go false true e = rw (mask_mode i e) (masked_end (has_alpha_mask masks) (get_or masks 0 0) (get_or masks 1 0) (get_or masks 2 0) (get_or masks 3 0))

@@ -7,13 +7,14 @@ use native.Mathlib.Omega.{arith}
 use borrow.Author.Tests.{ne_eqb}
 use lib.Dec.{eqb}
 use lib.ListN.{length, get_or}
-use Rattle.leaves.specs.declared.error.Check.TheVariants.{Passed}
+use Rattle.std.proofs.Common.{Ok, is_some}
 use Rattle.leaves.specs.declared.image.BmpPixelFormat.{BmpPixelFormat}
 use Rattle.leaves.specs.Bytes.{le16, le32}
 use Rattle.leaves.specs.Formats.{bits_per_pixel, is_rgb565}
 use Rattle.leaves.specs.Masks.{has_alpha_mask}
 use Rattle.leaves.specs.Put.{put}
 use Rattle.leaves.specs.Refusals.{first_of}
+use Rattle.leaves.specs.Options.{bitfields_in, calibrated_in}
 use Rattle.format.specs.declared.layout.Mode.{Mode}
 use Rattle.format.specs.declared.layout.Mode.TheVariants.{Masked, Calibrated, Profiled, Plain}
 use Rattle.format.specs.Accepted.{Accepted}
@@ -81,21 +82,21 @@ module _ (limit : ℕ) (i : Input) where
       go false = omega arith
 
   -- a mask file too
-  pub mask_compression_lem : stream_used limit i ≡ false → i.options.has_bitfields ≡ true → 0 < compression_of limit i
+  pub mask_compression_lem : stream_used limit i ≡ false → is_some i.options.bitfields ≡ true → 0 < compression_of limit i
   unfolding compression_of rows_compression
-  mask_compression_lem e m = rw (e, m) (go (has_alpha_mask i.options.bitfields.masks))
+  mask_compression_lem e m = rw (e, m) (go (has_alpha_mask (bitfields_in i.options).masks))
     where
       go : (b : Bool) → 0 < cond b 6 3
       go true = omega arith
       go false = omega arith
 
   -- stored rows without masks have compression 3 or 0, by the source
-  rows_compression_lem : stream_used limit i ≡ false → i.options.has_bitfields ≡ false → compression_of limit i ≡ cond (is_rgb565 i.source.format) 3 0
+  rows_compression_lem : stream_used limit i ≡ false → is_some i.options.bitfields ≡ false → compression_of limit i ≡ cond (is_rgb565 i.source.format) 3 0
   unfolding compression_of rows_compression
   rows_compression_lem e m = rw (e, m)
 
   -- and document 01's image size: compression 3 without masks stands in a long header
-  pub other_size : length (stored_rows_of i) ≡ raw_bytes i → stream_used limit i ≡ false → i.options.has_bitfields ≡ false → image_size_of limit i ≡ earlier_size i
+  pub other_size : length (stored_rows_of i) ≡ raw_bytes i → stream_used limit i ≡ false → is_some i.options.bitfields ≡ false → image_size_of limit i ≡ earlier_size i
   unfolding image_size_of
   other_size raw e m =
       let long : length (pixels limit i) ≡ raw_bytes i = ap length (rows_pixels limit i e) ∙ raw in
@@ -165,9 +166,9 @@ module _ (i : Input) (a : Accepted i) where
   zero-size e = rw e
 
   long_size : 40 < header_size_of (mode_in i) i.source.format → image_size_of (limit_in i) i ≡ earlier_size i
-  long_size h = go (stream_used (limit_in i) i) i.options.has_bitfields refl refl
+  long_size h = go (stream_used (limit_in i) i) (is_some i.options.bitfields) refl refl
     where
-      go : (u m : Bool) → stream_used (limit_in i) i ≡ u → i.options.has_bitfields ≡ m → image_size_of (limit_in i) i ≡ earlier_size i
+      go : (u m : Bool) → stream_used (limit_in i) i ≡ u → is_some i.options.bitfields ≡ m → image_size_of (limit_in i) i ≡ earlier_size i
       go true m e q = absurd (omega (arith, h, planned_header i (used_in (limit_in i) i e).planned))
       go false true e q = absurd (omega (arith, h, ap (λ (mode : Mode). header_size_of mode i.source.format) (mask_mode i q)))
       go false false e q = other_size (limit_in i) i (length_rows_lem i a.masks a.samples) e q
@@ -195,6 +196,6 @@ module _ (i : Input) (a : Accepted i) where
 
 -- so of a call that no row of the table refuses
 pub filled_of_table : (i : Input) (room offset : ℕ) → ((k : ℕ) → get_or i.plane k 0 < 256) → ((k : ℕ) → get_or i.palette k 0 < 256)
-    → length i.options.calibrated_rgb.endpoints ≡ 9 → length i.options.calibrated_rgb.gamma ≡ 3 → first_of (write_rows (limit_in i) i room offset) ≡ Passed
+    → length (calibrated_in i.options).endpoints ≡ 9 → length (calibrated_in i.options).gamma ≡ 3 → first_of (write_rows (limit_in i) i room offset) ≡ Ok tt
     → FilledIn i
 filled_of_table i room offset plane palette nine three e = filled_in i (accepted i room offset plane palette nine three e)

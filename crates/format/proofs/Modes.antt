@@ -6,6 +6,7 @@ use Prim.Native.Nat.{ℕ, ◌<◌}
 use borrow.Author.Tests.{ltb-true}
 use lib.Dec.{ltb}
 use lib.ListN.{length}
+use Rattle.std.proofs.Common.{is_some}
 use Rattle.leaves.specs.declared.encoder.EncodeSource.{EncodeSource}
 use Rattle.leaves.specs.declared.options.EncodeOptions.{EncodeOptions}
 use Rattle.leaves.specs.declared.image.BmpPixelFormat.{BmpPixelFormat}
@@ -20,9 +21,9 @@ use Rattle.format.specs.Input.{Input}
 -- ---- masks
 
 -- masks are given exactly in mask mode
-pub given_mode : (s : EncodeSource) (o : EncodeOptions) → o.has_bitfields ≡ is_masked (mode_of s o)
+pub given_mode : (s : EncodeSource) (o : EncodeOptions) → is_some o.bitfields ≡ is_masked (mode_of s o)
 unfolding mode_of
-given_mode s o = go o.has_bitfields o.has_calibrated_rgb (profile_mode s.has_linked_icc s.has_icc o.embed_icc)
+given_mode s o = go (is_some o.bitfields) (is_some o.calibrated_rgb) (profile_mode s.has_linked_icc s.has_icc o.embed_icc)
   where
     go : (a b c : Bool) → a ≡ is_masked (cond a Masked (cond b Calibrated (cond c Profiled Plain)))
     go true b c = refl
@@ -31,7 +32,7 @@ given_mode s o = go o.has_bitfields o.has_calibrated_rgb (profile_mode s.has_lin
     go false false false = refl
 
 -- so that is the mode with masks
-pub mask_mode : (i : Input) → i.options.has_bitfields ≡ true → mode_in i ≡ Masked
+pub mask_mode : (i : Input) → is_some i.options.bitfields ≡ true → mode_in i ≡ Masked
 unfolding mode_of
 mask_mode i e = rw e
 
@@ -65,7 +66,7 @@ coded_cases P a b Indexed1 e = absurd (false≢true e)
 pub record PlannedIn (i : Input) : Type 0 where
   pub mode : mode_in i ≡ Plain
   pub source : coded i.source.format ≡ true
-  pub unmasked : i.options.has_bitfields ≡ false
+  pub unmasked : is_some i.options.bitfields ≡ false
   pub bottom_up : i.options.top_down ≡ false
 
 -- a planned stream says so

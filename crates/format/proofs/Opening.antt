@@ -7,6 +7,7 @@ use Prim.Native.Nat.{ℕ, ◌≤◌}
 use borrow.Author.Tests.{le-ltb}
 use lib.Dec.{eqb}
 use lib.ListN.{length}
+use Rattle.std.proofs.Common.{is_some}
 use Rattle.leaves.specs.declared.image.BmpPixelFormat.{BmpPixelFormat}
 use Rattle.leaves.specs.declared.image.BmpPixelFormat.TheVariants.{Rgba, Rgb24, Bgra, Bgr24, Rgb555, Rgb565, Pal8, Indexed4, Indexed2, Indexed1}
 use Rattle.format.specs.File.{depth_in, limit_in, stream_used, compression_of, file_of}
@@ -15,6 +16,7 @@ use Rattle.leaves.specs.Formats.{bits_per_pixel, is_rgb565, mask_source}
 use Rattle.format.proofs.Modes.{coded_cases, used_in}
 use Rattle.format.proofs.HeadFields.{fields_read}
 use Rattle.leaves.specs.Masks.{has_alpha_mask, mask_compression}
+use Rattle.leaves.specs.Options.{bitfields_in}
 use Rattle.format.specs.Input.{Input}
 use Rattle.format.specs.Accepted.{Accepted}
 use Rattle.format.specs.Readers.{Reader, older, newer, Reading, refuses, Fields, fields_of, knows_depth, knows_compression, pairs, head_needs, body, read_fields, read}
@@ -100,20 +102,20 @@ module _ (i : Input) (a : Accepted i) where
   -- by whether a stream is used, and whether masks are given
   opens : Opens (two_bits i.source.format) (alpha_masked i) (compression_of (limit_in i) i) (depth_in i)
   unfolding compression_of rows_compression depth_of
-  opens = go (stream_used (limit_in i) i) i.options.has_bitfields refl refl
+  opens = go (stream_used (limit_in i) i) (is_some i.options.bitfields) refl refl
     where
       f : BmpPixelFormat
       f = i.source.format
 
       masks : List ℕ
-      masks = i.options.bitfields.masks
+      masks = (bitfields_in i.options).masks
 
-      go : (used given : Bool) → stream_used (limit_in i) i ≡ used → i.options.has_bitfields ≡ given
+      go : (used given : Bool) → stream_used (limit_in i) i ≡ used → is_some i.options.bitfields ≡ given
           → Opens (two_bits f) (given && has_alpha_mask masks) (cond used (cond (eqb (bits_per_pixel f) 8) 1 2) (cond given (mask_compression masks) (plain_compression f)))
-          (cond given i.options.bitfields.bpp (bits_per_pixel f))
+          (cond given (bitfields_in i.options).bpp (bits_per_pixel f))
       go true true u e = absurd (false≢true (sym (used_in (limit_in i) i u).planned.unmasked ∙ e))
       go true false u e = stream_opens f (used_in (limit_in i) i u).planned.source
-      go false true u e = masked_opens (two_bits f) (has_alpha_mask masks) i.options.bitfields.bpp (not_two f (a.samples e)) (a.masks e).depths
+      go false true u e = masked_opens (two_bits f) (has_alpha_mask masks) (bitfields_in i.options).bpp (not_two f (a.samples e)) (a.masks e).depths
       go false false u e = rows_open f
 
   -- the readers take the compression and depth that were written

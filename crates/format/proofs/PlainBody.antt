@@ -9,6 +9,7 @@ use borrow.Author.Tests.{le-ltb}
 use lib.Dec.{eqb}
 use lib.ListN.{length, get_or, drop}
 use lib.Seq.{drop-drop}
+use Rattle.std.proofs.Common.{is_some}
 use Rattle.leaves.specs.declared.image.BmpPixelFormat.{BmpPixelFormat}
 use Rattle.leaves.specs.declared.image.BmpPixelFormat.TheVariants.{Rgba, Rgb24, Bgra, Bgr24, Rgb555, Rgb565, Pal8, Indexed4, Indexed2, Indexed1}
 use Rattle.format.specs.File.{depth_in, pack_in, raw_bytes, head_bytes_of, tail_of, stream_of, limit_in, stream_used, stored_rows_of, pixels, compression_of, file_size_of, file_of}
@@ -20,6 +21,7 @@ use Rattle.format.proofs.HeadTable.{palette_read}
 use Rattle.format.proofs.HeadMasks.{ColourMasks, masks_read, alpha_read, rgb565_read}
 use Rattle.leaves.specs.Masks.{has_alpha_mask, mask_compression}
 use Rattle.leaves.specs.Sizes.{row_stride}
+use Rattle.leaves.specs.Options.{bitfields_in}
 use Rattle.rows.specs.StoredRows.{stored_row, stored_rows, pack_bits, pack_bytes, row_of, source_row}
 use Rattle.format.specs.Accepted.{Accepted}
 use Rattle.format.specs.Expectation.{pixel_bytes, handed, plainly_shown, fitted_shown, cell_shown, palette_shown, expected}
@@ -61,9 +63,9 @@ plain-bytes Indexed1 = refl
 
 pub pack_bytes_lem : (i : Input) → pack_bytes (pack_in i) ≡ bytes_per_pixel i.source.format
 unfolding pack_of
-pack_bytes_lem i = go i.options.has_bitfields
+pack_bytes_lem i = go (is_some i.options.bitfields)
   where
-    go : (b : Bool) → pack_bytes (cond b (mask_pack i.source.format i.options.bitfields.bpp i.options.bitfields.masks) (plain_pack i.source.format)) ≡ bytes_per_pixel i.source.format
+    go : (b : Bool) → pack_bytes (cond b (mask_pack i.source.format (bitfields_in i.options).bpp (bitfields_in i.options).masks) (plain_pack i.source.format)) ≡ bytes_per_pixel i.source.format
     go true = refl
     go false = plain-bytes i.source.format
 
@@ -124,10 +126,10 @@ needs_le o h w d len some k =
 -- ---- the call
 
 -- what must be shown, by whether masks are given
-shown_by : (i : Input) (y x : ℕ) (b : Bool) → i.options.has_bitfields ≡ b
-    → cell_shown i y x ≡ cond b (fitted_shown i.source.format i.options.bitfields.masks (handed i y x)) (plainly_shown i.source.format (handed i y x))
+shown_by : (i : Input) (y x : ℕ) (b : Bool) → is_some i.options.bitfields ≡ b
+    → cell_shown i y x ≡ cond b (fitted_shown i.source.format (bitfields_in i.options).masks (handed i y x)) (plainly_shown i.source.format (handed i y x))
 unfolding cell_shown
-shown_by i y x b e = ap (λ (z : Bool). cond z (fitted_shown i.source.format i.options.bitfields.masks (handed i y x)) (plainly_shown i.source.format (handed i y x))) e
+shown_by i y x b e = ap (λ (z : Bool). cond z (fitted_shown i.source.format (bitfields_in i.options).masks (handed i y x)) (plainly_shown i.source.format (handed i y x))) e
 
 module _ (i : Input) (a : Accepted i) (no : stream_used (limit_in i) i ≡ false) where
   abbrev file : List ℕ
@@ -167,7 +169,7 @@ module _ (i : Input) (a : Accepted i) (no : stream_used (limit_in i) i ≡ false
       (length_row_at (pack_in i) ok.0 i.source.width i.source.height i.options.top_down i.plane i.source.stride) l)
 
   -- a cell of a row that begins with the stored row, by the mode
-  cell_plain : (y x : ℕ) (rest : List ℕ) → i.options.has_bitfields ≡ false → y < i.source.height → x < i.source.width
+  cell_plain : (y x : ℕ) (rest : List ℕ) → is_some i.options.bitfields ≡ false → y < i.source.height → x < i.source.width
       → cell_in file (plain_compression i.source.format) (bits_per_pixel i.source.format) (stored_row (plain_pack i.source.format) i.source.width (source_in y) ++ rest) x
       ≡ cell_shown i y x
   cell_plain y x rest off l m =
@@ -176,33 +178,33 @@ module _ (i : Input) (a : Accepted i) (no : stream_used (limit_in i) i ≡ false
       ∙ plainly_of i.source.format _ (handed i y x) (λ k o. handed_byte y x k m o)
       ∙ sym (shown_by i y x false off)
 
-  cell_masked : (y x : ℕ) (rest : List ℕ) → i.options.has_bitfields ≡ true → x < i.source.width
-      → cell_in file (mask_compression i.options.bitfields.masks) i.options.bitfields.bpp
-      (stored_row (mask_pack i.source.format i.options.bitfields.bpp i.options.bitfields.masks) i.source.width (source_in y) ++ rest) x ≡ cell_shown i y x
+  cell_masked : (y x : ℕ) (rest : List ℕ) → is_some i.options.bitfields ≡ true → x < i.source.width
+      → cell_in file (mask_compression (bitfields_in i.options).masks) (bitfields_in i.options).bpp
+      (stored_row (mask_pack i.source.format (bitfields_in i.options).bpp (bitfields_in i.options).masks) i.source.width (source_in y) ++ rest) x ≡ cell_shown i y x
   cell_masked y x rest given m =
       let read = masks_read i a given in
-      rw (masked_code i.options.bitfields.masks)
-      (masked_cell i.source.format i.options.bitfields.bpp i.options.bitfields.masks file (source_in y) rest i.source.width x (a.samples given) (a.masks given)
+      rw (masked_code (bitfields_in i.options).masks)
+      (masked_cell i.source.format (bitfields_in i.options).bpp (bitfields_in i.options).masks file (source_in y) rest i.source.width x (a.samples given) (a.masks given)
       read.red_mask read.green_mask read.blue_mask (alpha_read i a given)
       (source_small i.plane i.source.stride (i.source.width * bytes_per_pixel i.source.format) y a.plane_bytes_is) m
-      ∙ fitted_of i.source.format i.options.bitfields.masks _ (handed i y x) (λ k o. handed_byte y x k m o)
+      ∙ fitted_of i.source.format (bitfields_in i.options).masks _ (handed i y x) (λ k o. handed_byte y x k m o)
       ∙ sym (shown_by i y x true given))
 
   cell_stored : (y x : ℕ) (rest : List ℕ) → y < i.source.height → x < i.source.width
       → cell_in file (compression_of (limit_in i) i) (depth_in i) (stored_row (pack_in i) i.source.width (source_in y) ++ rest) x ≡ cell_shown i y x
   unfolding compression_of rows_compression depth_of pack_of
-  cell_stored y x rest l m = rw no (go i.options.has_bitfields refl)
+  cell_stored y x rest l m = rw no (go (is_some i.options.bitfields) refl)
     where
       f : BmpPixelFormat
       f = i.source.format
 
       d : ℕ
-      d = i.options.bitfields.bpp
+      d = (bitfields_in i.options).bpp
 
       masks : List ℕ
-      masks = i.options.bitfields.masks
+      masks = (bitfields_in i.options).masks
 
-      go : (b : Bool) → i.options.has_bitfields ≡ b
+      go : (b : Bool) → is_some i.options.bitfields ≡ b
           → cell_in file (cond b (mask_compression masks) (plain_compression f)) (cond b d (bits_per_pixel f))
           (stored_row (cond b (mask_pack f d masks) (plain_pack f)) i.source.width (source_in y) ++ rest) x ≡ cell_shown i y x
       go true e = cell_masked y x rest e m
@@ -211,11 +213,11 @@ module _ (i : Input) (a : Accepted i) (no : stream_used (limit_in i) i ≡ false
   -- rows have no stream's compression
   pub rows_code : (eqb (compression_of (limit_in i) i) 1 || eqb (compression_of (limit_in i) i) 2) ≡ false
   unfolding compression_of rows_compression
-  rows_code = rw no (go i.options.has_bitfields)
+  rows_code = rw no (go (is_some i.options.bitfields))
     where
-      go : (b : Bool) → (eqb (cond b (mask_compression i.options.bitfields.masks) (plain_compression i.source.format)) 1
-          || eqb (cond b (mask_compression i.options.bitfields.masks) (plain_compression i.source.format)) 2) ≡ false
-      go true = masked_rows i.options.bitfields.masks
+      go : (b : Bool) → (eqb (cond b (mask_compression (bitfields_in i.options).masks) (plain_compression i.source.format)) 1
+          || eqb (cond b (mask_compression (bitfields_in i.options).masks) (plain_compression i.source.format)) 2) ≡ false
+      go true = masked_rows (bitfields_in i.options).masks
       go false = plain_rows (is_rgb565 i.source.format)
 
   pub top : top_first (fields_in i) ≡ i.options.top_down

@@ -3,8 +3,9 @@ use mathlib.Core.Path.{◌≡◌, refl, ap, ◌∙◌}
 use mathlib.Core.Bool.{Bool, true, false, cond}
 use Prim.Native.Nat.{ℕ, ◌<◌}
 use lib.ListN.{length, get_or}
-use Rattle.leaves.specs.declared.error.Check.TheVariants.{Passed}
+use Rattle.std.proofs.Common.{Ok}
 use Rattle.leaves.specs.Refusals.{first_of}
+use Rattle.leaves.specs.Options.{calibrated_in}
 use Rattle.format.specs.Accepted.{Accepted}
 use Rattle.format.specs.Demand.{two_bits, alpha_masked, Demand3}
 use Rattle.format.specs.Expectation.{expected}
@@ -38,6 +39,6 @@ demand3 i a =
 
 -- and a call is accepted if no row of the table refuses it
 pub demand3_of_table : (i : Input) (room offset : ℕ) → ((k : ℕ) → get_or i.plane k 0 < 256) → ((k : ℕ) → get_or i.palette k 0 < 256)
-    → length i.options.calibrated_rgb.endpoints ≡ 9 → length i.options.calibrated_rgb.gamma ≡ 3 → first_of (write_rows (limit_in i) i room offset) ≡ Passed
+    → length (calibrated_in i.options).endpoints ≡ 9 → length (calibrated_in i.options).gamma ≡ 3 → first_of (write_rows (limit_in i) i room offset) ≡ Ok tt
     → Demand3 i (file_of (limit_in i) i)
 demand3_of_table i room offset plane palette nine three e = demand3 i (accepted i room offset plane palette nine three e)

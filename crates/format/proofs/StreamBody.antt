@@ -7,6 +7,7 @@ use Prim.Native.Nat.{ℕ, zero, suc, ◌+◌, ◌-◌, ◌*◌, ◌%◌, ◌^◌
 use native.Mathlib.Omega.{arith}
 use lib.Dec.{eqb}
 use lib.ListN.{length, get_or, drop}
+use Rattle.std.proofs.Common.{is_some}
 use Rattle.leaves.specs.declared.image.BmpPixelFormat.{BmpPixelFormat}
 use Rattle.format.specs.File.{depth_in, head_bytes_of, tail_of, stream_of, limit_in, stream_used, pixels, compression_of, file_of}
 use Rattle.format.specs.Layout.{depth_of, coded}
@@ -109,7 +110,7 @@ unfolding compression_of
 kind_read i used = rw used
 
 -- and the depth is the source's
-pub plain_depth : (i : Input) → i.options.has_bitfields ≡ false → depth_in i ≡ bits_per_pixel i.source.format
+pub plain_depth : (i : Input) → is_some i.options.bitfields ≡ false → depth_in i ≡ bits_per_pixel i.source.format
 unfolding depth_of
 plain_depth i off = rw off
 
@@ -121,7 +122,7 @@ unfolding pixels stream_of
 stream_at i used = pixels-at i ∙ rw used
 
 -- without masks an index is shown as it was handed in, cut to the depth
-index_shown : (i : Input) → i.options.has_bitfields ≡ false → Coded i.source.format → (y x : ℕ)
+index_shown : (i : Input) → is_some i.options.bitfields ≡ false → Coded i.source.format → (y x : ℕ)
     → cell_shown i y x ≡ index (get_or i.plane (y * i.source.stride + x * 1 + 0) 0 % 2 ^ bits_per_pixel i.source.format)
 unfolding cell_shown handed
 index_shown i off c y x = rw off (c.shown (handed i y x) ∙ rw c.step)

@@ -1,9 +1,10 @@
 -- What is known of an accepted call, in numbers and lists.
-use Rattle.std.specs.Prelude.{ℕ, ◌*◌, ◌^◌, ◌≤◌, ◌<◌, ◌≡◌, ◌⊎◌, true, false, List, length, get_or}
+use Rattle.std.specs.Prelude.{ℕ, ◌*◌, ◌^◌, ◌≤◌, ◌<◌, ◌≡◌, ◌⊎◌, true, false, List, length, get_or, is_some}
 use Rattle.std.specs.Int.Bits.{bit_and}
 use Rattle.format.specs.File.{max_file, limit_in, file_size_of}
 use Rattle.leaves.specs.Formats.{bytes_per_pixel, mask_source}
 use Rattle.leaves.specs.Masks.{is_one_run}
+use Rattle.leaves.specs.Options.{bitfields_in, calibrated_in}
 use Rattle.format.specs.Input.{Input}
 
 -- masks that the check accepts
@@ -21,12 +22,12 @@ pub record Accepted (i : Input) : Type 0 where
   pub plane_bytes_is : (k : ℕ) → get_or i.plane k 0 < 256
   pub palette_bytes_is : (k : ℕ) → get_or i.palette k 0 < 256
   -- the code has them as arrays of nine and of three
-  pub nine_endpoints : length i.options.calibrated_rgb.endpoints ≡ 9
-  pub three_gammas : length i.options.calibrated_rgb.gamma ≡ 3
+  pub nine_endpoints : length (calibrated_in i.options).endpoints ≡ 9
+  pub three_gammas : length (calibrated_in i.options).gamma ≡ 3
   pub rows_inside : i.source.width * bytes_per_pixel i.source.format ≤ i.source.stride
   pub plane_long : i.source.stride * i.source.height ≤ length i.plane
-  pub masks : i.options.has_bitfields ≡ true → MasksAccepted i.options.bitfields.bpp i.options.bitfields.masks
-  pub samples : i.options.has_bitfields ≡ true → mask_source i.source.format ≡ false
+  pub masks : is_some i.options.bitfields ≡ true → MasksAccepted (bitfields_in i.options).bpp (bitfields_in i.options).masks
+  pub samples : is_some i.options.bitfields ≡ true → mask_source i.source.format ≡ false
   -- the file keeps to the limit, and the limit to what bfSize can record
   pub fits : file_size_of (limit_in i) i ≤ limit_in i
   pub limited : limit_in i ≤ max_file

@@ -1,7 +1,8 @@
 -- Demand 3, of the bytes that an accepted call appends.
-use Rattle.std.specs.Prelude.{ℕ, ◌≡◌, Bool, true, false, not, cond, ◌&&◌, List, eqb, get_or}
+use Rattle.std.specs.Prelude.{ℕ, ◌≡◌, Bool, true, false, not, cond, ◌&&◌, List, eqb, get_or, is_some}
 use Rattle.leaves.specs.declared.image.BmpPixelFormat.{BmpPixelFormat}
 use Rattle.leaves.specs.declared.image.BmpPixelFormat.TheVariants.{Rgba, Rgb24, Bgra, Bgr24, Rgb555, Rgb565, Pal8, Indexed4, Indexed2, Indexed1}
+use Rattle.leaves.specs.Options.{bitfields_in}
 use Rattle.format.specs.Input.{Input}
 use Rattle.format.specs.Readers.{older, newer, Reading, shows, refuses, read}
 use Rattle.format.specs.Shown.{unknown_depth, unknown_compression}
@@ -22,7 +23,7 @@ two_bits Indexed1 = false
 
 -- "mask mode has a nonzero alpha mask"
 abbrev pub alpha_masked : Input → Bool
-alpha_masked i = i.options.has_bitfields && not (eqb (get_or i.options.bitfields.masks 3 0) 0)
+alpha_masked i = (is_some i.options.bitfields) && not (eqb (get_or (bitfields_in i.options).masks 3 0) 0)
 
 -- "The older one refuses, by name and showing no cell, exactly when .."; "in every other case the two are alike"
 abbrev pub older_reads : Input → Reading

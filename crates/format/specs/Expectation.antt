@@ -1,10 +1,11 @@
 -- What must be shown (document 01, Cells: "Cell x of row y handed in ..", "Shown must be: .."), from those sentences alone.
-use Rattle.std.specs.Prelude.{ℕ, ◌+◌, ◌*◌, ◌/◌, ◌%◌, min, max, Bool, cond, List, eqb, length, get_or}
+use Rattle.std.specs.Prelude.{ℕ, ◌+◌, ◌*◌, ◌/◌, ◌%◌, min, max, Bool, cond, List, eqb, length, get_or, is_some}
 use Rattle.std.specs.Int.Count.{ones_in}
 use Rattle.leaves.specs.declared.image.BmpPixelFormat.{BmpPixelFormat}
 use Rattle.leaves.specs.declared.image.BmpPixelFormat.TheVariants.{Rgba, Rgb24, Bgra, Bgr24, Rgb555, Rgb565, Pal8, Indexed4, Indexed2, Indexed1}
 use Rattle.leaves.specs.Fit.{fit}
 use Rattle.leaves.specs.Lists.{tab}
+use Rattle.leaves.specs.Options.{bitfields_in}
 use Rattle.format.specs.Input.{Input}
 use Rattle.format.specs.Shown.{Cell, index, rgb, rgba, Shown}
 
@@ -68,7 +69,7 @@ fitted_shown Indexed1 masks byte = index 0
 
 unfoldable pub cell_shown : Input → ℕ → ℕ → Cell
 cell_shown i y x =
-    cond i.options.has_bitfields (fitted_shown i.source.format i.options.bitfields.masks (handed i y x)) (plainly_shown i.source.format (handed i y x))
+    cond (is_some i.options.bitfields) (fitted_shown i.source.format (bitfields_in i.options).masks (handed i y x)) (plainly_shown i.source.format (handed i y x))
 
 -- the entries of the palette shown: "the colour table as filled above", and none above depth 8
 unfoldable pub colours_shown : BmpPixelFormat → ℕ → Bool → ℕ

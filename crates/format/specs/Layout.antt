@@ -1,5 +1,5 @@
 -- What source and options decide of a file, before a byte of any slice is looked at (document 01, The plan).
-use Rattle.std.specs.Prelude.{ℕ, ◌+◌, ◌*◌, ◌/◌, Bool, true, false, not, cond, ◌&&◌, List, [], ◌∷◌, ◌++◌, eqb, length, get_or, replicate}
+use Rattle.std.specs.Prelude.{ℕ, ◌+◌, ◌*◌, ◌/◌, Bool, true, false, not, cond, ◌&&◌, List, [], ◌∷◌, ◌++◌, eqb, length, get_or, replicate, Option, Some, None, is_some}
 use Rattle.leaves.specs.declared.bitfields.MaskShiftLen.{MaskShiftLen}
 use Rattle.leaves.specs.declared.encoder.EncodeSource.{EncodeSource}
 use Rattle.leaves.specs.declared.encoder.EncodedBmpFormat.{EncodedBmpFormat}
@@ -11,14 +11,14 @@ use Rattle.leaves.specs.Formats.{bytes_per_pixel, bits_per_pixel, is_indexed, bl
 use Rattle.format.specs.declared.layout.Mode.{Mode}
 use Rattle.format.specs.declared.layout.Mode.TheVariants.{Masked, Calibrated, Profiled, Plain}
 use Rattle.format.specs.declared.layout.Layout.{Layout}
-use Rattle.format.specs.declared.layout.Coding.{Coding}
-use Rattle.format.specs.declared.layout.Coding.TheVariants.{Stream, Nothing}
 use Rattle.leaves.specs.Masks.{count, lowest, has_alpha_mask, mask_compression}
 use Rattle.leaves.specs.Refusals.{profile_mode}
 use Rattle.leaves.specs.Sizes.{row_stride, written_palette_entries}
+use Rattle.leaves.specs.Options.{bitfields_in, calibrated_in}
 use Rattle.rows.specs.declared.masks.MaskLayout.{MaskLayout}
 use Rattle.rows.specs.declared.pack.RowPack.{RowPack}
 use Rattle.rows.specs.declared.pack.RowPack.TheVariants as pack
+use Rattle.rows.specs.declared.rle.Rle.{Rle}
 use Rattle.rows.specs.declared.rle.Rle.TheVariants.{Rle8, Rle4}
 use Rattle.format.specs.Headers.{dwords, v4_fields, v5_fields, longs}
 
@@ -27,8 +27,8 @@ use Rattle.format.specs.Headers.{dwords, v4_fields, v5_fields, longs}
 -- "masks, calibrated colour, profile": of a call that 5 lets pass at most one is given, and without one the head is plain
 unfoldable pub mode_of : EncodeSource → EncodeOptions → Mode
 mode_of s o =
-    cond o.has_bitfields Masked
-    (cond o.has_calibrated_rgb Calibrated
+    cond (is_some o.bitfields) Masked
+    (cond (is_some o.calibrated_rgb) Calibrated
     (cond (profile_mode s.has_linked_icc s.has_icc o.embed_icc) Profiled Plain))
 
 abbrev pub is_masked : Mode → Bool
@@ -57,7 +57,7 @@ tail_in mode given icc linked = cond (is_profiled mode) (cond given linked icc) 
 
 -- "Masks: .. depth": the masks' own depth, and else the source's
 unfoldable pub depth_of : EncodeSource → EncodeOptions → ℕ
-depth_of s o = cond o.has_bitfields o.bitfields.bpp (bits_per_pixel s.format)
+depth_of s o = cond (is_some o.bitfields) (bitfields_in o).bpp (bits_per_pixel s.format)
 
 -- a mask's place, 0 for a zero mask, and its count of ones
 abbrev pub channel_of : ℕ → MaskShiftLen
@@ -92,7 +92,7 @@ mask_pack f depth masks = pack.Masks (bytes_per_pixel f) (blue_first f) (channel
 
 -- the masks decide where they are given, and else the source
 unfoldable pub pack_of : EncodeSource → EncodeOptions → RowPack
-pack_of s o = cond o.has_bitfields (mask_pack s.format o.bitfields.bpp o.bitfields.masks) (plain_pack s.format)
+pack_of s o = cond (is_some o.bitfields) (mask_pack s.format (bitfields_in o).bpp (bitfields_in o).masks) (plain_pack s.format)
 
 -- ---- the colour table
 
@@ -129,8 +129,8 @@ mask_tail masks = dwords (get_or masks 0 0 ∷ get_or masks 1 0 ∷ get_or masks
 -- what stands between the first 40 bytes of the info header and the colour table, of a profile of `size` bytes that begins `at` bytes after the
 -- info header's start
 unfoldable pub head_rest : Mode → EncodeSource → EncodeOptions → ℕ → ℕ → List ℕ
-head_rest Masked s o size at = mask_tail o.bitfields.masks
-head_rest Calibrated s o size at = v4_fields (long_masks s.format) 0 (longs o.calibrated_rgb.endpoints) o.calibrated_rgb.gamma
+head_rest Masked s o size at = mask_tail (bitfields_in o).masks
+head_rest Calibrated s o size at = v4_fields (long_masks s.format) 0 (longs (calibrated_in o).endpoints) (calibrated_in o).gamma
 head_rest Profiled s o size at =
     v4_fields (long_masks s.format) (cond s.has_linked_icc 0x4C494E4B 0x4D424544) (replicate 9 0) (replicate 3 0)
     ++ v5_fields o.rendering_intent at size
@@ -150,35 +150,31 @@ abbrev pub plain_compression : BmpPixelFormat → ℕ
 plain_compression f = cond (is_rgb565 f) 3 0
 
 unfoldable pub rows_compression : EncodeSource → EncodeOptions → ℕ
-rows_compression s o = cond o.has_bitfields (mask_compression o.bitfields.masks) (plain_compression s.format)
+rows_compression s o = cond (is_some o.bitfields) (mask_compression (bitfields_in o).masks) (plain_compression s.format)
 
 abbrev pub mask_format : List ℕ → EncodedBmpFormat
 mask_format masks = cond (has_alpha_mask masks) AlphaBitfields Bitfields
 
 unfoldable pub rows_format : EncodeSource → EncodeOptions → EncodedBmpFormat
-rows_format s o = cond o.has_bitfields (mask_format o.bitfields.masks) (plain_token s.format)
+rows_format s o = cond (is_some o.bitfields) (mask_format (bitfields_in o).masks) (plain_token s.format)
 
 -- ---- the stream
 
 -- the depths that have a coding (the pages: BI_RLE8 for 8 bits per pixel, BI_RLE4 for 4)
-abbrev pub coding_at : ℕ → Coding
-coding_at depth = cond (eqb depth 8) (Stream Rle8) (cond (eqb depth 4) (Stream Rle4) Nothing)
-
-abbrev pub is_stream : Coding → Bool
-is_stream (Stream rle) = true
-is_stream Nothing = false
+abbrev pub coding_at : ℕ → Option Rle
+coding_at depth = cond (eqb depth 8) (Some Rle8) (cond (eqb depth 4) (Some Rle4) None)
 
 -- whether a source's indices have one
 abbrev pub coded : BmpPixelFormat → Bool
-coded f = is_stream (coding_at (bits_per_pixel f))
+coded f = is_some (coding_at (bits_per_pixel f))
 
 -- "RLE is planned for plain Pal8 and Indexed4 if the option is on and the picture isn't top-down"
 unfoldable pub wants_rle : EncodeSource → EncodeOptions → Bool
 wants_rle s o = is_plain (mode_of s o) && coded s.format && o.rle && not o.top_down
 
 -- what is tried before the rows are stored
-unfoldable pub coding_of : EncodeSource → EncodeOptions → Coding
-coding_of s o = cond (wants_rle s o) (coding_at (bits_per_pixel s.format)) Nothing
+unfoldable pub coding_of : EncodeSource → EncodeOptions → Option Rle
+coding_of s o = cond (wants_rle s o) (coding_at (bits_per_pixel s.format)) None
 
 -- ---- the layout
 

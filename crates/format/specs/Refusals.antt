@@ -1,6 +1,6 @@
 -- Document 01's whole table, of a call, with document 02's rows of the settings and of the row starts. A limit stands where document 01 has 4,294,967,295 (A.5: "The limit
 -- replaces 4,294,967,295 in 14, 16 and the bound").
-use Rattle.std.specs.Prelude.{ℕ, ◌-◌, Bool, not, cond, ◌&&◌, ◌||◌, List, [], ◌∷◌, ◌++◌, ltb, length}
+use Rattle.std.specs.Prelude.{ℕ, ◌-◌, Bool, not, cond, ◌&&◌, ◌||◌, List, [], ◌∷◌, ◌++◌, ltb, length, is_some}
 use Rattle.leaves.specs.declared.error.Refusal.{Refusal}
 use Rattle.leaves.specs.declared.error.Refusal.TheVariants.{MaskSource, FileTooLarge, BufferTooShort, StreamOverBudget, StartsTooShort}
 use Rattle.format.specs.File.{rle_planned, stream_of, budget, plain_size_of, bound_of}
@@ -10,6 +10,7 @@ use Rattle.leaves.specs.Refusals.{profile_mode, dimension_rows, settings_rows, p
 use Rattle.format.specs.Input.{Input}
 use Rattle.leaves.specs.declared.encoder.EncodeSource.{EncodeSource}
 use Rattle.leaves.specs.declared.options.EncodeOptions.{EncodeOptions}
+use Rattle.leaves.specs.Options.{bitfields_in}
 
 -- 14: "RLE not planned and file over 4,294,967,295"
 unfoldable pub file_too_large : ℕ → Input → Bool
@@ -26,7 +27,7 @@ stream_over_budget limit i = rle_planned i && ltb limit (plain_size_of i) && not
 -- "Masks, if given": 6 to 11
 unfoldable pub given_masks_rows : EncodeSource → EncodeOptions → List (Bool × Refusal)
 given_masks_rows s o =
-    cond o.has_bitfields (bitfields_rows o.bitfields.bpp o.bitfields.masks ++ ((mask_source s.format, MaskSource) ∷ [])) []
+    cond (is_some o.bitfields) (bitfields_rows (bitfields_in o).bpp (bitfields_in o).masks ++ ((mask_source s.format, MaskSource) ∷ [])) []
 
 -- 1 to 13 with 20 and 21 "directly after 2": picture, settings, modes, masks and plane, of a plane and a palette of so many bytes
 unfoldable pub check_rows : EncodeSource → EncodeOptions → ℕ → ℕ → List (Bool × Refusal)
@@ -34,7 +35,7 @@ check_rows s o plane_bytes palette_bytes =
     dimension_rows s.width s.height
     ++ settings_rows o.limit o.x_pels_per_meter o.y_pels_per_meter
     ++ palette_rows (is_indexed s.format) s.has_palette palette_bytes
-    ++ mode_rows o.has_bitfields o.has_calibrated_rgb (profile_mode s.has_linked_icc s.has_icc o.embed_icc)
+    ++ mode_rows (is_some o.bitfields) (is_some o.calibrated_rgb) (profile_mode s.has_linked_icc s.has_icc o.embed_icc)
     ++ given_masks_rows s o
     ++ plane_rows s.width s.height s.stride (bytes_per_pixel s.format) plane_bytes
 

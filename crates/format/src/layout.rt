@@ -12,13 +12,6 @@ pub enum Mode {
     Plain,
 }
 
-// What is tried before the rows are stored.
-#[derive(Clone, Copy)]
-pub enum Coding {
-    Stream(Rle),
-    Nothing,
-}
-
 #[derive(Clone, Copy)]
 pub struct Layout {
     pub mode: Mode,
@@ -28,7 +21,8 @@ pub struct Layout {
     pub bit_count: u16,
     // Entries of the colour table.
     pub entries: usize,
-    pub coding: Coding,
+    // The stream that is tried before the rows are stored.
+    pub coding: Option<Rle>,
     // How rows are stored, with biCompression and the format answered for them.
     pub pack: RowPack,
     pub compression: u32,

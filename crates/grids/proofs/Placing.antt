@@ -65,7 +65,7 @@ module _ (edges lows highs : List Float) where
 pub passes : (passed applies : Bool) → passed ≡ not applies → passed ≡ true → applies ≡ false
 passes passed applies e h = not-true applies (sym e ∙ h)
 
-fails : (passed applies : Bool) → passed ≡ not applies → passed ≡ false → applies ≡ true
+pub fails : (passed applies : Bool) → passed ≡ not applies → passed ≡ false → applies ≡ true
 fails passed applies e h = not-false applies (sym e ∙ h)
 
 module _ (edges lows highs : List Float) (was : List ℕ) where

@@ -5,13 +5,16 @@ use mathlib.Core.Bool.{Bool, true, false, not, ◌&&◌, ◌||◌}
 use mathlib.Core.List.{List, [], ◌∷◌}
 use Prim.Native.Nat.{ℕ, zero, suc, ◌+◌, ◌≤◌, ◌<◌}
 use native.Mathlib.Nat.{not-suc-le-zero, le_of_suc-le-suc, eq-or-lt_of_le}
-use native.Mathlib.Numerals.{add-one}
 use native.Mathlib.Omega.{arith}
 use borrow.Author.Tests.{ltb-false, le-ltb, lt-ltb, not-false}
 use lib.Dec.{T, ltb}
 use lib.Ieee.{Float, nan, is_nan, lt, le}
-use lib.ListN.{length, get_or, drop, drop_of_length-le}
-use lib.Seq.{drop-cons}
+use lib.ListN.{length, get_or, drop}
+use mathlib.Core.Bool.{not-not}
+use Rattle.std.specs.List.{AllAdjacentBelow, IsAllAdjacentAnswer, AllWithin, HoldsAt}
+use Rattle.std.specs.Bool.{MatchBool}
+use Rattle.std.proofs.lemmas.Slice.Zip.{length-zip, get_or-zip}
+use Rattle.std.specs.List.{zip}
 use Rattle.grids.specs.Scale.{some_nan, rises_from, rises, not_scale, quote_at, not_quote, some_not_quote}
 use Rattle.leaves.proofs.Tests.{or-first, or-second}
 use Rattle.format.proofs.Modes.{both}
@@ -54,27 +57,41 @@ unfolding not_scale some_nan
 first_nan [] h k f = absurd (omega arith)
 first_nan (edge ∷ edges) h k f = rw (le-ltb (length (edge ∷ edges)) 1 h, le-ltb 254 (length (edge ∷ edges)) k, f)
 
--- the loop: its start, a turn, a stop and the end
-pub scale_start : (edges : List Float) → 1 ≤ length edges → length edges ≤ 254 → is_nan (get_or edges 0 nan) ≡ false
+-- refused or not by what follows the first edge
+scale_start : (edges : List Float) → 1 ≤ length edges → length edges ≤ 254 → is_nan (get_or edges 0 nan) ≡ false
     → not_scale edges ≡ not (rises_from (get_or edges 0 nan) (drop 1 edges))
 unfolding not_scale
 scale_start [] h k f = absurd (omega arith)
 scale_start (edge ∷ edges) h k f = rw (le-ltb (length (edge ∷ edges)) 1 h, le-ltb 254 (length (edge ∷ edges)) k) (first_and_rest edge edges f)
 
-module _ (edges : List Float) (before : Float) (i : ℕ) where
-  rises-at : i < length edges → rises_from before (drop i edges) ≡ lt before (get_or edges i nan) && rises_from (get_or edges i nan) (drop (i + 1) edges)
-  unfolding rises_from
-  rises-at h = rw (add-one i, drop-cons edges i nan h)
+no_and : (b : Bool) → b && false ≡ false
+no_and true = refl
+no_and false = refl
 
-  pub rises_turn : i < length edges → lt before (get_or edges i nan) ≡ true → rises_from before (drop i edges) ≡ rises_from (get_or edges i nan) (drop (i + 1) edges)
-  rises_turn h e = rises-at h ∙ ap (λ (b : Bool). b && rises_from (get_or edges i nan) (drop (i + 1) edges)) e
+-- neighbours that all rise, and two that do not
+all_rise : (before : Float) (edges : List Float) → AllAdjacentBelow (λ x y. true ≡ lt x y) (before ∷ edges) (length (before ∷ edges)) → rises_from before edges ≡ true
+unfolding rises_from
+all_rise before [] h = refl
+all_rise before (edge ∷ edges) h =
+    rw (sym (h 0 nan (omega arith)))
+    (all_rise edge edges (λ k d l. let n : suc k + 1 ≡ suc (k + 1) = omega arith in rw n at (h (suc k) d (omega arith))))
 
-  pub rises_stop : i < length edges → lt before (get_or edges i nan) ≡ false → rises_from before (drop i edges) ≡ false
-  rises_stop h e = rises-at h ∙ ap (λ (b : Bool). b && rises_from (get_or edges i nan) (drop (i + 1) edges)) e
+some_falls : (before : Float) (edges : List Float) (k : ℕ) → k + 1 < length (before ∷ edges)
+    → ((d : Float) → false ≡ lt (get_or (before ∷ edges) k d) (get_or (before ∷ edges) (k + 1) d)) → rises_from before edges ≡ false
+unfolding rises_from
+some_falls before [] k l h = absurd (omega arith)
+some_falls before (edge ∷ edges) zero l h = rw (sym (h nan)) refl
+some_falls before (edge ∷ edges) (suc k) l h =
+    let n : suc k + 1 ≡ suc (k + 1) = omega arith in
+    ap (λ (b : Bool). lt before edge && b) (some_falls edge edges k (omega arith) (λ d. rw n at (h d))) ∙ no_and (lt before edge)
 
-  pub rises_end : length edges ≤ i → rises_from before (drop i edges) ≡ true
-  unfolding rises_from
-  rises_end h = rw (drop_of_length-le edges {i = i} h)
+-- what `is_sorted_by` says, as the check of a scale
+pub scale_by_neighbours : (edges : List Float) (sorted : Bool) → 1 ≤ length edges → length edges ≤ 254 → is_nan (get_or edges 0 nan) ≡ false
+    → IsAllAdjacentAnswer (λ x y b. b ≡ lt x y) edges sorted → sorted ≡ not (not_scale edges)
+scale_by_neighbours [] sorted h k f a = absurd (omega arith)
+scale_by_neighbours (edge ∷ edges) true h k f a = sym (ap not (scale_start (edge ∷ edges) h k f) ∙ not-not (rises_from edge edges) ∙ all_rise edge edges a)
+scale_by_neighbours (edge ∷ edges) false h k f a =
+    sym (ap not (scale_start (edge ∷ edges) h k f) ∙ not-not (rises_from edge edges) ∙ some_falls edge edges a.0 a.1 a.2)
 
 -- ---- what a scale is
 
@@ -142,20 +159,17 @@ pub quote_le : (quoted : Quote) → not_quote quoted ≡ false → le quoted.low
 quote_le quoted e = quote_test quoted ∙ ap not e
 
 module _ (lows highs : List Float) where
-  pub no_quotes : some_not_quote lows highs 0 ≡ false
+  none_refused : (n : ℕ) → ((k : ℕ) → k < n → not_quote (quote_at lows highs k) ≡ false) → some_not_quote lows highs n ≡ false
   unfolding some_not_quote
-  no_quotes = refl
-
-  pub quotes_turn : (k : ℕ) → some_not_quote lows highs k ≡ false → not_quote (quote_at lows highs k) ≡ false → some_not_quote lows highs (k + 1) ≡ false
-  unfolding some_not_quote
-  quotes_turn k h e = rw (add-one k, h, e)
+  none_refused zero f = refl
+  none_refused (suc n) f = rw (none_refused n (λ k h. f k (omega arith)), f n (omega arith)) refl
 
   one_of : (n k : ℕ) → not_quote (quote_at lows highs k) ≡ true → (k ≡ n) ⊎ (k < n) → (k < n → some_not_quote lows highs n ≡ true)
       → some_not_quote lows highs n || not_quote (quote_at lows highs n) ≡ true
   one_of n k e (inl q) h = or-second (some_not_quote lows highs n) (not_quote (quote_at lows highs n)) (ap (λ (j : ℕ). not_quote (quote_at lows highs j)) (sym q) ∙ e)
   one_of n k e (inr l) h = or-first (some_not_quote lows highs n) (not_quote (quote_at lows highs n)) (h l)
 
-  pub quotes_stop : (n k : ℕ) → k < n → not_quote (quote_at lows highs k) ≡ true → some_not_quote lows highs n ≡ true
+  quotes_stop : (n k : ℕ) → k < n → not_quote (quote_at lows highs k) ≡ true → some_not_quote lows highs n ≡ true
   unfolding some_not_quote
   quotes_stop zero k h e = absurd (not-suc-le-zero h)
   quotes_stop (suc n) k h e = one_of n k e (eq-or-lt_of_le (le_of_suc-le-suc h)) (λ l. quotes_stop n k l e)
@@ -171,3 +185,16 @@ module _ (lows highs : List Float) where
   each_quote zero k e h = absurd (not-suc-le-zero h)
   each_quote (suc n) k e h =
       each_of n k e (eq-or-lt_of_le (le_of_suc-le-suc h)) (λ l. each_quote n k (or_false (some_not_quote lows highs n) (not_quote (quote_at lows highs n)) e).0 l)
+
+  -- what `all` says of the pairs
+  pub quotes_by_pairs : length lows ≤ length highs → (good : Bool)
+      → MatchBool good
+      (AllWithin (λ (p : Float × Float). not_quote (record { low = p.0; high = p.1 }) ≡ false) (zip lows highs) 0 (length (zip lows highs)))
+      ((k : ℕ) × (k < length (zip lows highs)) × HoldsAt (λ (p : Float × Float). not_quote (record { low = p.0; high = p.1 }) ≡ true) (zip lows highs) k)
+      → good ≡ not (some_not_quote lows highs (length lows))
+  unfolding quote_at
+  quotes_by_pairs l true a =
+      ap not (sym (none_refused (length lows) (λ k h. rw (get_or-zip lows highs k (nan, nan) h (omega arith)) at (a k (nan, nan) (omega arith) (omega (arith, length-zip lows highs))))))
+  quotes_by_pairs l false (k, h, a) =
+      let i : k < length lows = omega (arith, length-zip lows highs) in
+      ap not (sym (quotes_stop (length lows) k i (rw (get_or-zip lows highs k (nan, nan) i (omega arith)) at (a (nan, nan)))))

@@ -7,7 +7,7 @@ use native.Mathlib.Nat.{mod-eq_of_lt}
 use native.Mathlib.Omega.{arith}
 use lib.Ieee.{Float}
 use lib.ListN.{length, get_or, take, drop}
-use Rattle.leaves.specs.declared.error.Check.TheVariants.{Passed}
+use Rattle.std.proofs.Common.{Ok, is_some}
 use Rattle.leaves.specs.declared.image.BmpPixelFormat.TheVariants.{Pal8}
 use Rattle.leaves.specs.Formats.{mask_source}
 use Rattle.leaves.specs.Lists.{tab}
@@ -19,8 +19,7 @@ use Rattle.format.specs.Input.{Input}
 use Rattle.format.specs.Readers.{shows}
 use Rattle.format.specs.Refusals.{write_rows}
 use Rattle.format.specs.Shown.{Cell, index}
-use Rattle.planner.specs.declared.encoder.Encoded.{Encoded}
-use Rattle.planner.specs.Answers.{encoded_number, encoded_bytes, Written}
+use Rattle.planner.specs.Answers.{EncodeAnswer, encoded_number, encoded_bytes, Written}
 use Rattle.leaves.proofs.FirstOf.{check_determined}
 use Rattle.leaves.proofs.ListLaws.{get_or-tab}
 use Rattle.format.proofs.Acceptance.{keeps_limit}
@@ -32,14 +31,14 @@ use Rattle.grids.proofs.Promises.{none_applies, index_small, painted_at}
 
 module _ (i : Input) (pal8 : i.source.format ≡ Pal8) where
   -- 11 lets no masks pass beside it
-  unmasked : (room offset : ℕ) → first_of (write_rows (limit_in i) i room offset) ≡ Passed → i.options.has_bitfields ≡ false
-  unmasked room offset e = go i.options.has_bitfields refl
+  unmasked : (room offset : ℕ) → first_of (write_rows (limit_in i) i room offset) ≡ Ok tt → is_some i.options.bitfields ≡ false
+  unmasked room offset e = go (is_some i.options.bitfields) refl
     where
-      go : (b : Bool) → i.options.has_bitfields ≡ b → b ≡ false
+      go : (b : Bool) → is_some i.options.bitfields ≡ b → b ≡ false
       go true q = absurd (true≢false (sym (ap mask_source pal8) ∙ (keeps_limit i room offset e).0.samples q))
       go false q = refl
 
-  module _ (plain : i.options.has_bitfields ≡ false) where
+  module _ (plain : is_some i.options.bitfields ≡ false) where
     -- both readers show what is expected
     older_too : older_reads i ≡ shows (expected i)
     older_too = rw (pal8, plain)
@@ -61,7 +60,7 @@ module _ (i : Input) (pal8 : i.source.format ≡ Pal8) where
 
 pub quotes_shown : (edges lows highs : List Float) (was painted : List ℕ) → Shaded edges lows highs was painted 0
     → (i : Input) → i.source.format ≡ Pal8 → i.plane ≡ painted
-    → (offset : ℕ) (buffer later : List ℕ) (r : Encoded) → Written i offset buffer later r → encoded_number r ≡ 0
+    → (offset : ℕ) (buffer later : List ℕ) (r : EncodeAnswer) → Written i offset buffer later r → encoded_number r ≡ 0
     → QuotesShown edges lows highs i.source (take (encoded_bytes r) (drop offset later))
 unfolding expected
 quotes_shown edges lows highs was painted p i pal8 plane offset buffer later r w accepted = record {
@@ -77,5 +76,5 @@ quotes_shown edges lows highs was painted p i pal8 plane offset buffer later r w
       cell_at i pal8 plain y x h k ∙ cell_is i pal8 plain y x ∙ ap (λ (n : ℕ). index (n % 256)) byte ∙ ap index (mod-eq_of_lt small);
 }
   where
-    plain : i.options.has_bitfields ≡ false
-    plain = unmasked i pal8 (length buffer) offset (check_determined (first_of (write_rows (limit_in i) i (length buffer) offset)) Passed (sym w.number ∙ accepted))
+    plain : is_some i.options.bitfields ≡ false
+    plain = unmasked i pal8 (length buffer) offset (check_determined (first_of (write_rows (limit_in i) i (length buffer) offset)) (Ok tt) (sym w.number ∙ accepted))

@@ -1,17 +1,22 @@
 -- Shades: on a list where every edge before one at or below the price is so too, the shade parts the edges; so sixteen comparisons with block ends and sixteen
 -- in a block find it, and a cell needs one search.
 use mathlib.Core.Path.{◌≡◌, refl, sym, ap, ◌∙◌}
-use mathlib.Core.Bool.{Bool, true, false, true≢false}
-use mathlib.Core.List.{List, [], ◌∷◌}
-use Prim.Native.Nat.{ℕ, zero, suc, ◌+◌, ◌*◌, ◌/◌, ◌≤◌, ◌<◌, min}
+use mathlib.Core.Bool.{Bool, true, false, cond, true≢false}
+use mathlib.Core.List.{List, [], ◌∷◌, ◌++◌}
+use Prim.Native.Nat.{ℕ, zero, suc, ◌+◌, ◌*◌, ◌/◌, ◌≤◌, ◌<◌, ◌-◌}
 use native.Mathlib.Decide.{dec_lt}
 use native.Mathlib.Nat.{not-suc-le-zero, le_of_suc-le-suc}
 use native.Mathlib.Omega.{arith}
 use borrow.Author.Tests.{eq-eqb, ne_eqb}
 use lib.Ieee.{Float, nan, is_nan, le}
-use lib.ListN.{length, get_or, get_or-eq_default}
+use lib.ListN.{length, get_or, take, drop, get_or-eq_default, length-drop}
+use lib.ListN.{replicate, length-append, get_or-append}
+use lib.Seq.{length-take-le, get_or-take, get_or-drop, get_or-append_right}
+use Rattle.std.proofs.lemmas.List.{length-replicate, get_or-replicate, drop-replicate}
+use Rattle.std.specs.List.{count_by}
+use Rattle.std.proofs.lemmas.List.Recursion.{is_count_by}
 use Rattle.leaves.specs.Refusals.{one}
-use Rattle.grids.specs.Levels.{Falls, Levels, Spread}
+use Rattle.grids.specs.Levels.{Falls, Padded, Levels, Spread}
 use Rattle.grids.specs.Scale.{shade_of, index_of, not_scale, not_quote}
 use Rattle.grids.specs.declared.scale.Quote.{Quote}
 use Rattle.grids.proofs.FloatOrder.{truth, holds, le_trans, nan_le}
@@ -82,7 +87,7 @@ parts (edge ∷ edges) price f (suc k) h =
 -- edges with NaNs behind them have the same shades
 module _ (edges ends blocks : List Float) (scale : not_scale edges ≡ false) (s : Spread edges ends blocks) where
   at_block : (price : Float) (k : ℕ) → k < 256 → le (get_or blocks k nan) price ≡ le (get_or edges k nan) price
-  at_block price k l = ap (λ (x : Float). le x price) (s.each k l)
+  at_block price k l = ap (λ (x : Float). le x price) (s.padded.each k l)
 
   behind : (price : Float) (k : ℕ) → length edges ≤ k → k < 256 → le (get_or blocks k nan) price ≡ false
   unfolding is_nan
@@ -91,22 +96,22 @@ module _ (edges ends blocks : List Float) (scale : not_scale edges ≡ false) (s
   blocks_fall : Falls blocks
   blocks_fall price j k h l e =
       elim (dec_lt k (length edges)) [
-        | yes p ↦ at_block price j (omega (arith, s.long)) ∙ earlier edges price j k (scale_rises edges scale) h p (sym (at_block price k (omega (arith, s.long))) ∙ e)
-        | no p ↦ absurd (true≢false (sym e ∙ behind price k (omega arith) (omega (arith, s.long))))
+        | yes p ↦ at_block price j (omega (arith, s.padded.long)) ∙ earlier edges price j k (scale_rises edges scale) h p (sym (at_block price k (omega (arith, s.padded.long))) ∙ e)
+        | no p ↦ absurd (true≢false (sym e ∙ behind price k (omega arith) (omega (arith, s.padded.long))))
       ]
 
   pub levels : Levels (length edges / 16) ends blocks
   unfolding is_nan
   levels = record {
-    long = s.long;
+    long = s.padded.long;
     falls = blocks_fall;
     few = omega (arith, few_edges edges scale);
-    open_end = ap is_nan (s.each (16 * (length edges / 16) + 15) (omega (arith, few_edges edges scale)) ∙ get_or-eq_default edges nan {n = 16 * (length edges / 16) + 15} (omega arith));
+    open_end = ap is_nan (s.padded.each (16 * (length edges / 16) + 15) (omega (arith, few_edges edges scale)) ∙ get_or-eq_default edges nan {n = 16 * (length edges / 16) + 15} (omega arith));
     block_ends = s.block_ends;
   }
 
   part : (price : Float) (k : ℕ) → k < 256 → Parts blocks price k
-  part price k l = parts blocks price blocks_fall k (omega (arith, s.long))
+  part price k l = parts blocks price blocks_fall k (omega (arith, s.padded.long))
 
   same-shade : (price : Float) → shade_of blocks price ≡ shade_of edges price
   same-shade price = count_at edges price (shade_of blocks price) few low high
@@ -128,55 +133,30 @@ module _ (edges ends blocks : List Float) (scale : not_scale edges ≡ false) (s
   unfolding index_of
   same_index quoted = rw (same-shade quoted.low, same-shade quoted.high)
 
--- ---- the search. Shut, so that no case is split in what the loops need.
+-- the edges written over the start of a list of NaNs
+pub padded_is : (edges was blank : List Float) (x : Float) → length edges ≤ 256 → was ≡ edges → blank ≡ replicate 256 x → x ≡ nan → Padded edges (was ++ drop (length edges) blank)
+padded_is edges was blank x few w b n =
+    let tail : drop (length edges) blank ≡ replicate (256 - length edges) x = ap (drop (length edges)) b ∙ drop-replicate (length edges) 256 x in
+    record {
+      long = length-append was (drop (length edges) blank) ∙ rw (w, tail, length-replicate (256 - length edges) x) (omega arith);
+      each = λ k h.
+          elim (dec_lt k (length edges)) [
+            | yes p ↦ rw w (get_or-append edges (drop (length edges) blank) nan k p)
+            | no p ↦ rw (w, get_or-append_right edges (drop (length edges) blank) k nan (omega arith), tail, get_or-replicate (256 - length edges) (k - length edges) x nan (omega arith), n)
+                (sym (get_or-eq_default edges nan {n = k} (omega arith)))
+          ];
+    }
 
--- of i block ends, those before place t; of the places up to n, those before it
-unfoldable pub ends_before : ℕ → ℕ → ℕ
-ends_before i t = min i (t / 16)
+-- ---- the search
 
-unfoldable pub places_before : ℕ → ℕ → ℕ
-places_before n t = min n t
-
-pub ends_none : (t : ℕ) → 0 ≡ ends_before 0 t
-unfolding ends_before
-ends_none t = omega arith
-
-pub ends_few : (i t : ℕ) → ends_before i t ≤ i
-unfolding ends_before
-ends_few i t = omega arith
-
-pub ends_up : (i n t : ℕ) → n ≡ ends_before i t → 16 * i + 15 < t → n + 1 ≡ ends_before (i + 1) t
-unfolding ends_before
-ends_up i n t e h = omega arith
-
-pub ends_same : (i n t : ℕ) → n ≡ ends_before i t → t ≤ 16 * i + 15 → n ≡ ends_before (i + 1) t
-unfolding ends_before
-ends_same i n t e h = omega arith
-
--- after the ends of the full blocks the block is known
-pub ends_all : (full n t : ℕ) → full ≤ 15 → n ≡ ends_before full t → t ≤ 16 * full + 15 → (n ≤ 15) × (16 * n ≤ t) × (t < 16 * n + 16)
-unfolding ends_before
-ends_all full n t f e h = (omega arith, omega arith, omega arith)
-
-pub places_none : (n m t : ℕ) → m ≡ n → n ≤ t → n ≡ places_before m t
-unfolding places_before
-places_none n m t e h = omega arith
-
-pub places_few : (n t : ℕ) → places_before n t ≤ n
-unfolding places_before
-places_few n t = omega arith
-
-pub places_up : (n c m t : ℕ) → c ≡ places_before n t → m ≡ n + 1 → n < t → c + 1 ≡ places_before m t
-unfolding places_before
-places_up n c m t e q h = omega arith
-
-pub places_same : (n c m t : ℕ) → c ≡ places_before n t → m ≡ n + 1 → t ≤ n → c ≡ places_before m t
-unfolding places_before
-places_same n c m t e q h = omega arith
-
-pub places_all : (n c t : ℕ) → c ≡ places_before n t → t ≤ n → c ≡ t
-unfolding places_before
-places_all n c t e h = omega arith
+-- std's count is the shade
+count_is : (price : Float) (edges : List Float) → shade_of edges price ≡ count_by (λ edge. le edge price) edges
+unfolding shade_of
+count_is price = is_count_by (λ edges. shade_of edges price) (λ edge. le edge price) refl (λ edge edges. by (le edge price) (shade_of edges price))
+  where
+    by : (b : Bool) (s : ℕ) → one b + s ≡ cond b (1 + s) s
+    by true s = refl
+    by false s = omega arith
 
 module _ (full : ℕ) (ends blocks : List Float) (l : Levels full ends blocks) (price : Float) where
   -- no shade is behind the NaN
@@ -195,6 +175,25 @@ module _ (full : ℕ) (ends blocks : List Float) (l : Levels full ends blocks) (
 
   pub place_over : (k : ℕ) → k < 256 → le (get_or blocks k nan) price ≡ false → shade_of blocks price ≤ k
   place_over k h e = (parts blocks price l.falls k (omega (arith, l.long))).over e
+
+  -- after the ends of the full blocks the block is known
+  whole_blocks : length ends ≡ 16 → (whole : ℕ) → whole ≡ count_by (λ edge. le edge price) (take full ends) → whole ≡ shade_of blocks price / 16
+  whole_blocks e whole w =
+      let t = shade_of blocks price in
+      let n : t / 16 ≤ full = omega (arith, shade_small) in
+      w ∙ sym (count_is price (take full ends)) ∙ sym (count_at (take full ends) price (t / 16) (omega (arith, length-take-le full ends (omega (arith, l.few, e)))) (λ k h. rw (get_or-take full ends k nan (omega arith)) (true_or (le (get_or ends k nan) price) (λ q. let o : t ≤ 16 * k + 15 = end_over k (omega (arith, l.few)) q in omega arith))) (λ k h m. let i : k < full = omega (arith, length-take-le full ends (omega (arith, l.few, e))) in rw (get_or-take full ends k nan i) (false_or (le (get_or ends k nan) price) (λ q. let u : 16 * k + 15 < t = end_under k (omega (arith, l.few)) q in omega arith))))
+
+  pub shade_found : length ends ≡ 16 → (whole count : ℕ) → whole ≡ count_by (λ edge. le edge price) (take full ends)
+      → count ≡ count_by (λ edge. le edge price) (take 16 (drop (16 * whole) blocks)) → 16 * whole + count ≡ shade_of blocks price
+  shade_found e whole count w c =
+      let t = shade_of blocks price in
+      let i : whole ≡ t / 16 = whole_blocks e whole w in
+      let few : whole ≤ 15 = omega (arith, shade_small, l.few) in
+      let block = take 16 (drop (16 * whole) blocks) in
+      let long : length block ≡ 16 = length-take-le 16 (drop (16 * whole) blocks) (omega (arith, length-drop (16 * whole) blocks, l.long)) in
+      let at : (k : ℕ) → k < 16 → get_or block k nan ≡ get_or blocks (16 * whole + k) nan = λ k h. get_or-take 16 (drop (16 * whole) blocks) k nan h ∙ get_or-drop (16 * whole) blocks k nan in
+      let n : count ≡ t - 16 * whole = c ∙ sym (count_is price block) ∙ sym (count_at block price (t - 16 * whole) (omega arith) (λ k h. rw (at k (omega arith)) (true_or (le (get_or blocks (16 * whole + k) nan) price) (λ q. let o : t ≤ 16 * whole + k = place_over (16 * whole + k) (omega arith) q in omega arith))) (λ k h m. rw (at k (omega arith)) (false_or (le (get_or blocks (16 * whole + k) nan) price) (λ q. let u : 16 * whole + k < t = place_under (16 * whole + k) (omega arith) q in omega arith)))) in
+      omega arith
 
 -- ---- a cell
 

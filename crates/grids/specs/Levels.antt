@@ -19,8 +19,12 @@ pub record Levels (full : ℕ) (ends blocks : List Float) : Type 0 where
   pub open_end : is_nan (get_or blocks (16 * full + 15) nan) ≡ true
   pub block_ends : BlockEnds ends blocks
 
--- the edges with NaNs behind them, in blocks
-pub record Spread (edges ends blocks : List Float) : Type 0 where
+-- the edges with NaNs behind them
+pub record Padded (edges blocks : List Float) : Type 0 where
   pub long : length blocks ≡ 256
   pub each : (k : ℕ) → k < 256 → get_or blocks k nan ≡ get_or edges k nan
+
+-- the same, in blocks
+pub record Spread (edges ends blocks : List Float) : Type 0 where
+  pub padded : Padded edges blocks
   pub block_ends : BlockEnds ends blocks

@@ -1,13 +1,15 @@
 -- Document 02, A.6: the shade of a price, the index of a quote, the numbers 15, 22 and 23, and what the call promises.
 -- Prices are compared as IEEE 754 does, by the kit's `lt` (below) and `le` (at or below): -0 and 0 are one price, an infinity is above or below every
 -- other price, and no comparison with a NaN holds. Their laws are in proofs/FloatOrder.
-use Rattle.std.specs.Prelude.{◌≡◌, Bool, true, false, not, cond, ◌&&◌, ◌||◌, List, [], ◌∷◌, ℕ, zero, suc, ◌+◌, ltb, eqb, Float, length, get_or}
+use Rattle.std.specs.Prelude.{◌≡◌, Bool, true, false, not, cond, ◌&&◌, ◌||◌, List, [], ◌∷◌, ℕ, zero, suc, ◌+◌, ltb, eqb, Float, length, get_or, ⊤, Result, Ok, Err}
 use Rattle.std.specs.Float.{nan}
 use Rattle.std.specs.Float.Ieee.{is_nan, lt, le}
 use Rattle.leaves.specs.Lists.{tab}
 use Rattle.leaves.specs.Put.{put}
 use Rattle.leaves.specs.Refusals.{one, first_applying}
 use Rattle.grids.specs.declared.scale.Quote.{Quote}
+use Rattle.grids.specs.declared.scale.ShadeRefusal.{ShadeRefusal}
+use Rattle.grids.specs.declared.scale.ShadeRefusal.TheVariants.{ListsTooShort, NotScale, NotQuote}
 
 -- "A price's shade is the count of edges at or below it"
 unfoldable pub shade_of : List Float → Float → ℕ
@@ -59,6 +61,17 @@ not_quote quoted = (is_nan quoted.low || is_nan quoted.high) || lt quoted.high q
 unfoldable pub some_not_quote : List Float → List Float → ℕ → Bool
 some_not_quote lows highs zero = false
 some_not_quote lows highs (suc n) = some_not_quote lows highs n || not_quote (quote_at lows highs n)
+
+-- of the causes
+abbrev pub number_of : ShadeRefusal → ℕ
+number_of ListsTooShort = 15
+number_of NotScale = 22
+number_of NotQuote = 23
+
+-- of the call's answer: 0 where nothing is refused
+abbrev pub answer_number : Result ⊤ ShadeRefusal → ℕ
+answer_number (Ok _) = 0
+answer_number (Err why) = number_of why
 
 unfoldable pub quote_rows : List Float → List Float → List Float → ℕ → List (Bool × ℕ)
 quote_rows edges lows highs plane =

@@ -1,14 +1,47 @@
 // Document 02, A.6: a grid painted from prices, of which each cell has two, by a scale of rising edges.
-ghost use Rattle.std.specs.Prelude.{◌≡◌, false, not, ◌≤◌, length};
+ghost use Rattle.std.specs.Prelude.{◌≡◌, false, not, ◌/◌, ◌≤◌, length};
 ghost use Rattle.leaves.specs.Put.{put};
-ghost use Rattle.grids.specs.Levels.{Levels, Spread};
-ghost use Rattle.grids.specs.Scale.{shade_of, index_of, indices_of, not_scale, not_quote, some_not_quote, Shaded};
+ghost use Rattle.grids.specs.Levels.{Levels, Padded, Spread};
+ghost use Rattle.grids.specs.Scale.{number_of, answer_number, shade_of, index_of, indices_of, not_scale, not_quote, some_not_quote, Shaded};
+
+// Why a grid is not painted.
+#[derive(Clone, Copy, Debug, PartialEq, Eq)]
+pub enum ShadeRefusal {
+    // Highs or a plane shorter than the lows.
+    ListsTooShort,
+    // No edge or over 254, an edge that is not a number, or edges that do not strictly rise.
+    NotScale,
+    // A low or high that is not a number, or a low above its high.
+    NotQuote,
+}
+
+impl ShadeRefusal {
+    // Document 02's number.
+    pub fn number(self) -> u32
+        ensures { result ≡ number_of self }
+    {
+        match self {
+            ShadeRefusal::ListsTooShort => 15,
+            ShadeRefusal::NotScale => 22,
+            ShadeRefusal::NotQuote => 23,
+        }
+    }
+}
 
 // Document 02: "a cell is a record with a low and a high price".
 #[derive(Clone, Copy)]
 pub struct Quote {
     pub low: f64,
     pub high: f64,
+}
+
+impl Quote {
+    // Whether both ends are numbers, the low not above the high: at or below is all of that.
+    fn is_quote(self) -> bool
+        ensures { result ≡ not (not_quote self) }
+    {
+        self.low <= self.high
+    }
 }
 
 // The index of a cell whose ends have different shades.
@@ -26,92 +59,75 @@ fn is_scale(edges: &[f64]) -> bool
     if 254 < n {
         return false;
     }
-    let mut before = edges[0];
-    if before != before {
+    if edges[0].is_nan() {
         return false;
     }
-    let mut i = 1;
-    while i < n {
-        let edge = edges[i];
-        if before < edge {
-            before = edge;
-            i += 1;
-        } else {
-            return false;
-        }
-    }
-    true
+    edges.is_sorted_by(|before, edge| before < edge)
 }
 
-// A scale for the search: its edges with NaNs behind them, and the last of each block of sixteen.
-fn spread(edges: &[f64], ends: &mut [f64; 16], blocks: &mut [f64; 256])
-    requires { (length ends.old ≡ 16) × (length blocks.old ≡ 256) }
-    ensures { Spread edges.now ends.new blocks.new }
+// A scale's edges with NaNs behind them.
+fn padded(edges: &[f64]) -> [f64; 256]
+    requires { length edges.now ≤ 256 }
+    ensures { Padded edges.now result }
 {
-    let padding = 0.0 / 0.0;
-    let n = edges.len();
-    let mut k = 0;
-    while k < 256 {
-        if k < n {
-            blocks[k] = edges[k];
-        } else {
-            blocks[k] = padding;
-        }
-        k += 1;
-    }
-    let mut i = 0;
-    while i < 16 {
-        let edge = blocks[16 * i + 15];
-        ends[i] = edge;
-        i += 1;
-    }
+    let mut all = [f64::NAN; 256];
+    all[..edges.len()].copy_from_slice(edges);
+    all
 }
 
-// How many edges are at or below a price: of the full blocks those that are so to their end, then the edges of the next
-// block. No branch turns on the price.
-fn shade(price: f64, full: usize, ends: &[f64; 16], blocks: &[f64; 256]) -> usize
-    requires { Levels full ends.now blocks.now }
-    ensures { result ≡ shade_of blocks.now price }
-{
-    let mut whole = 0;
-    let mut i = 0;
-    while i < full {
-        let end = ends[i];
-        if end <= price {
-            whole += 1;
-        }
-        i += 1;
-    }
-    let base = 16 * whole;
-    let mut count = base;
-    let mut k = 0;
-    while k < 16 {
-        let edge = blocks[base + k];
-        if edge <= price {
-            count += 1;
-        }
-        k += 1;
-    }
-    count
+// A scale for the search: its edges with NaNs behind them in blocks of sixteen, and the last of each block.
+#[derive(Drop)]
+struct Blocks {
+    edges: [f64; 256],
+    ends: [f64; 16],
+    // How many have no NaN.
+    full: usize,
+    ghost levels: { Levels full ends edges },
 }
 
-impl Quote {
-    // Whether both ends are numbers, the low not above the high: at or below is all of that.
-    fn is_quote(self) -> bool
-        ensures { result ≡ not (not_quote self) }
+impl Blocks {
+    fn new(edges: &[f64]) -> Blocks
+        requires { not_scale edges.now ≡ false }
+        ensures { Spread edges.now result.ends result.edges }
     {
-        self.low <= self.high
+        let full = edges.len() / 16;
+        let edges = padded(edges);
+        let mut ends = [0.0; 16];
+        for i in 0..16 {
+            ends[i] = edges[16 * i + 15];
+        }
+        Blocks { edges, ends, full }
+    }
+
+    // How many edges are at or below a price: of the full blocks those that are so to their end, then the edges of the next
+    // block. No branch turns on the price, as vector code needs it; a chain of `filter` and `count` has one.
+    fn shade(&self, price: f64) -> usize
+        ensures { result ≡ shade_of self.now.edges price }
+    {
+        let mut whole = 0;
+        for end in &self.ends[..self.full] {
+            if *end <= price {
+                whole += 1;
+            }
+        }
+        let base = 16 * whole;
+        let mut count = 0;
+        for edge in &self.edges[base..base + 16] {
+            if *edge <= price {
+                count += 1;
+            }
+        }
+        base + count
     }
 
     // The shade of both ends, or the hatch. The high has the low's shade unless the next edge is at or below it too.
-    fn index(self, full: usize, ends: &[f64; 16], blocks: &[f64; 256]) -> u8
-        requires levels { Levels full ends.now blocks.now }
-        requires one_quote { not_quote self ≡ false }
-        ensures { result ≡ index_of blocks.now self }
+    fn index(&self, quote: Quote) -> u8
+        requires { not_quote quote ≡ false }
+        ensures { result ≡ index_of self.now.edges quote }
     {
-        let low = shade(self.low, full, ends, blocks);
-        let next = blocks[low];
-        if next <= self.high { HATCH } else { low as u8 }
+        let low = self.shade(quote.low);
+        let next = self.edges[low];
+        if next <= quote.high { HATCH } else { low as u8 }
     }
 }
 
@@ -120,20 +136,11 @@ fn are_quotes(lows: &[f64], highs: &[f64]) -> bool
     requires { length lows.now ≤ length highs.now }
     ensures { result ≡ not (some_not_quote lows.now highs.now (length lows.now)) }
 {
-    let n = lows.len();
-    let mut k = 0;
-    while k < n {
-        let low = lows[k];
-        let high = highs[k];
-        let quoted = Quote { low, high };
-        let good = quoted.is_quote();
-        if good {
-            k += 1;
-        } else {
-            return false;
-        }
+    lows.iter().zip(highs).all(|(low, high)| Quote {
+        low: *low,
+        high: *high,
     }
-    true
+    .is_quote())
 }
 
 // Paints the quotes.
@@ -144,42 +151,37 @@ fn fill(edges: &[f64], lows: &[f64], highs: &[f64], plane: &mut [u8])
     requires all_quotes { some_not_quote lows.now highs.now (length lows.now) ≡ false }
     ensures { plane.new ≡ put plane.old 0 (indices_of edges.now lows.now highs.now) }
 {
-    let mut ends = [0.0f64; 16];
-    let mut blocks = [0.0f64; 256];
-    spread(edges, &mut ends, &mut blocks);
-    let full = edges.len() / 16;
-    let count = lows.len();
-    let mut k = 0;
-    while k < count {
-        let low = lows[k];
-        let high = highs[k];
-        let quoted = Quote { low, high };
-        let shown = quoted.index(full, &ends, &blocks);
-        plane[k] = shown;
-        k += 1;
+    let blocks = Blocks::new(edges);
+    for k in 0..lows.len() {
+        plane[k] = blocks.index(Quote {
+            low: lows[k],
+            high: highs[k],
+        });
     }
 }
 
-// Paints the quotes of two lists into the plane, an index a cell, and answers 0; or changes nothing and answers 15, 22 or
-// 23.
-pub fn shade_quotes(edges: &[f64], lows: &[f64], highs: &[f64], plane: &mut [u8]) -> u32
-    ensures { Shaded edges.now lows.now highs.now plane.old plane.new result }
+// Paints the quotes of two lists into the plane, an index a cell, or changes nothing and says why.
+pub fn shade_quotes(
+    edges: &[f64],
+    lows: &[f64],
+    highs: &[f64],
+    plane: &mut [u8],
+) -> Result<(), ShadeRefusal>
+    ensures { Shaded edges.now lows.now highs.now plane.old plane.new (answer_number result) }
 {
     let n = lows.len();
     if highs.len() < n {
-        return 15;
+        return Err(ShadeRefusal::ListsTooShort);
     }
     if plane.len() < n {
-        return 15;
+        return Err(ShadeRefusal::ListsTooShort);
     }
-    let scale = is_scale(edges);
-    if scale {
-        let quotes = are_quotes(lows, highs);
-        if quotes {
-            fill(edges, lows, highs, plane);
-            return 0;
-        }
-        return 23;
+    if !is_scale(edges) {
+        return Err(ShadeRefusal::NotScale);
     }
-    22
+    if !are_quotes(lows, highs) {
+        return Err(ShadeRefusal::NotQuote);
+    }
+    fill(edges, lows, highs, plane);
+    Ok(())
 }

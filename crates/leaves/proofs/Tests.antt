@@ -1,23 +1,21 @@
 -- Rows of the table of refusals, and what `search` is handed at a `return` of a function that tests one row after the other.
-use Rattle.std.proofs.Common.{◌≡◌, ℕ, Bool, true, false, cond, not, ◌&&◌, ◌||◌, refl, rules, le-ltb, lt-ltb, eq-eqb, ne_eqb, le-leb}
+use Rattle.std.proofs.Common.{◌≡◌, ℕ, Bool, true, false, cond, not, ◌&&◌, ◌||◌, refl, rules, le-ltb, lt-ltb, eq-eqb, ne_eqb, le-leb, Err}
 use borrow.Author.Tests.{lt-leb, not-true, not-false}
 use Rattle.leaves.specs.declared.error.Refusal.{Refusal}
-use Rattle.leaves.specs.declared.error.Check.{Check}
-use Rattle.leaves.specs.declared.error.Check.TheVariants.{Refused}
-use Rattle.leaves.specs.Refusals.{number_of, check_number}
+use Rattle.leaves.specs.Refusals.{number_of, check_number, Check}
 
 -- a row that applies, and one that does not
-pub applies : (n : ℕ) (t : Bool) (why : Refusal) (rest : Check) → t ≡ true → n ≡ number_of why → n ≡ check_number (cond t (Refused why) rest)
+pub applies : (n : ℕ) (t : Bool) (why : Refusal) (rest : Check) → t ≡ true → n ≡ number_of why → n ≡ check_number (cond t (Err why) rest)
 applies n t why rest e h = rw e h
 
-pub passes : (n : ℕ) (t : Bool) (why : Refusal) (rest : Check) → t ≡ false → n ≡ check_number rest → n ≡ check_number (cond t (Refused why) rest)
+pub passes : (n : ℕ) (t : Bool) (why : Refusal) (rest : Check) → t ≡ false → n ≡ check_number rest → n ≡ check_number (cond t (Err why) rest)
 passes n t why rest e h = rw e h
 
 -- the same of checks
-pub decides : (t : Bool) (why : Refusal) (rest : Check) → t ≡ true → Refused why ≡ cond t (Refused why) rest
+pub decides : (t : Bool) (why : Refusal) (rest : Check) → t ≡ true → Err why ≡ cond t (Err why) rest
 decides t why rest e = rw e
 
-pub leaves_it : (c : Check) (t : Bool) (why : Refusal) (rest : Check) → t ≡ false → c ≡ rest → c ≡ cond t (Refused why) rest
+pub leaves_it : (c : Check) (t : Bool) (why : Refusal) (rest : Check) → t ≡ false → c ≡ rest → c ≡ cond t (Err why) rest
 leaves_it c t why rest e h = rw e h
 
 -- a test of several parts

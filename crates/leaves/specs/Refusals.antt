@@ -1,10 +1,8 @@
 -- Document 01's table of refusals, with document 02's numbers of the settings and of the row starts: a number for each cause, one predicate for each row in that row's own words, and the first row that applies.
 -- The rows that need the plan (11, 14, 15, 16, 24) are defined where the plan is.
-use Rattle.std.specs.Prelude.{ℕ, ◌+◌, ◌*◌, ◌%◌, Bool, true, false, cond, not, ◌&&◌, ◌||◌, List, [], ◌∷◌, ℤ, pos, ◌==◌, int_lt, nat_lt}
+use Rattle.std.specs.Prelude.{ℕ, ◌+◌, ◌*◌, ◌%◌, Bool, true, false, cond, not, ◌&&◌, ◌||◌, List, [], ◌∷◌, ℤ, pos, ◌==◌, int_lt, nat_lt, Result, Ok, Err}
 use Rattle.leaves.specs.declared.error.Refusal.{Refusal}
 use Rattle.leaves.specs.declared.error.Refusal.TheVariants.{ZeroDimension, DimensionTooLarge, PaletteMissing, PaletteNotQuads, SeveralModes, MaskDepth, MaskAboveDepth, MaskNotOneRun, MaskOverlap, NoColourMask, MaskSource, PlaneTooShort, StrideTooShort, FileTooLarge, BufferTooShort, StreamOverBudget, LimitTooLarge, NegativeResolution, StartsTooShort}
-use Rattle.leaves.specs.declared.error.Check.{Check}
-use Rattle.leaves.specs.declared.error.Check.TheVariants.{Passed, Refused}
 
 -- the table's column "No.", and document 02, A.5: "New numbers: 20 .. 21", A.7: "New numbers: 24"
 abbrev pub number_of : Refusal → ℕ
@@ -28,20 +26,24 @@ number_of LimitTooLarge = 20
 number_of NegativeResolution = 21
 number_of StartsTooShort = 24
 
--- a check's answer as a number: 0 where nothing is refused
+-- what a check answers: nothing, or the cause of a refusal
+abbrev pub Check : Type 0
+Check = Result (Unit {0}) Refusal
+
+-- its answer as a number: 0 where nothing is refused
 abbrev pub check_number : Check → ℕ
-check_number Passed = 0
-check_number (Refused why) = number_of why
+check_number (Ok passed) = 0
+check_number (Err why) = number_of why
 
 -- rows of the table, each a test and the cause it names: the first whose test holds decides
 abbrev pub first_of : List (Bool × Refusal) → Check
-first_of [] = Passed
-first_of (row ∷ rows) = cond row.0 (Refused row.1) (first_of rows)
+first_of [] = Ok tt
+first_of (row ∷ rows) = cond row.0 (Err row.1) (first_of rows)
 
 -- of two checks in a row, the first that refuses decides
 abbrev pub or_else : Check → Check → Check
-or_else Passed next = next
-or_else (Refused why) next = Refused why
+or_else (Ok passed) next = next
+or_else (Err why) next = Err why
 
 -- the number of the first row that applies, or 0
 abbrev pub first_number : List (Bool × Refusal) → ℕ

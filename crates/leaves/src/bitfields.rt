@@ -6,7 +6,7 @@ ghost use Rattle.leaves.specs.Masks.{is_one_run, union_of, mask_rows, bitfields_
 ghost use Rattle.leaves.specs.Refusals.{check_number, first_number};
 ghost use Rattle.leaves.specs.Widening.{Widens};
 
-use crate::error::{Check, Refusal};
+use crate::error::Refusal;
 use crate::types::{BI_ALPHABITFIELDS, BI_BITFIELDS};
 use crate::widening::widened;
 
@@ -21,8 +21,7 @@ impl BmpBitfields {
     pub fn has_alpha(self) -> bool
         ensures { result ≡ has_alpha_mask self.masks }
     {
-        let masks = self.masks;
-        masks[3] != 0
+        self.masks[3] != 0
     }
 
     // biCompression of a file with these masks.
@@ -30,9 +29,10 @@ impl BmpBitfields {
         ensures { result ≡ mask_compression self.masks }
     {
         if self.has_alpha() {
-            return BI_ALPHABITFIELDS;
+            BI_ALPHABITFIELDS
+        } else {
+            BI_BITFIELDS
         }
-        BI_BITFIELDS
     }
 }
 
@@ -43,8 +43,8 @@ fn is_contiguous(mask: u32) -> bool
     if mask == 0 {
         return true;
     }
-    let normalised = mask >> u32::trailing_zeros(mask);
-    normalised & std::num::wrapping_add_u32(normalised, 1) == 0
+    let normalised = mask >> mask.trailing_zeros();
+    normalised & normalised.wrapping_add(1) == 0
 }
 
 // All bits of a word of this depth.
@@ -59,7 +59,7 @@ fn mask_limit(bpp: u16) -> u32
 }
 
 // 7, 8 and 9 of the mask at place k, after masks whose bits together are `union`.
-fn validate_mask(bpp: u16, masks: [u32; 4], k: usize, union: u32) -> Check
+fn validate_mask(bpp: u16, masks: [u32; 4], k: usize, union: u32) -> Result<(), Refusal>
     requires known_depth { (bpp ≡ 16) ⊎ (bpp ≡ 32) }
     requires k_bound { k < 4 }
     requires union_so_far { union ≡ union_of masks k }
@@ -67,41 +67,36 @@ fn validate_mask(bpp: u16, masks: [u32; 4], k: usize, union: u32) -> Check
 {
     let mask = masks[k];
     if mask == 0 {
-        return Check::Passed;
+        return Ok(());
     }
     if mask > mask_limit(bpp) {
-        return Check::Refused(Refusal::MaskAboveDepth);
+        return Err(Refusal::MaskAboveDepth);
     }
     if !is_contiguous(mask) {
-        return Check::Refused(Refusal::MaskNotOneRun);
+        return Err(Refusal::MaskNotOneRun);
     }
     if union & mask != 0 {
-        return Check::Refused(Refusal::MaskOverlap);
+        return Err(Refusal::MaskOverlap);
     }
-    Check::Passed
+    Ok(())
 }
 
 // The mask check: 6 to 10.
-pub fn validate(bpp: u16, masks: [u32; 4]) -> Check
+pub fn validate(bpp: u16, masks: [u32; 4]) -> Result<(), Refusal>
     ensures { check_number result ≡ first_number (bitfields_rows bpp masks) }
 {
     if bpp != 16 && bpp != 32 {
-        return Check::Refused(Refusal::MaskDepth);
+        return Err(Refusal::MaskDepth);
     }
     let mut union: u32 = 0;
-    let mut k = 0;
-    while k < 4 {
-        let check = validate_mask(bpp, masks, k, union);
-        if let Check::Refused(why) = check {
-            return Check::Refused(why);
-        }
-        union = union | masks[k];
-        k += 1;
+    for k in 0..4 {
+        validate_mask(bpp, masks, k, union)?;
+        union |= masks[k];
     }
     if masks[0] == 0 && masks[1] == 0 && masks[2] == 0 {
-        return Check::Refused(Refusal::NoColourMask);
+        return Err(Refusal::NoColourMask);
     }
-    Check::Passed
+    Ok(())
 }
 
 // Where a channel stands in its word: its lowest bit and its count of bits.
@@ -117,8 +112,8 @@ pub fn mask_shift_len(mask: u32) -> MaskShiftLen
     if mask == 0 {
         return MaskShiftLen { shift: 0, len: 0 };
     }
-    let shift = u32::trailing_zeros(mask);
-    let len = 32 - u32::leading_zeros(mask) - shift;
+    let shift = mask.trailing_zeros();
+    let len = 32 - mask.leading_zeros() - shift;
     MaskShiftLen { shift, len }
 }
 

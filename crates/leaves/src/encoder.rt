@@ -9,18 +9,18 @@ use crate::image::BmpPixelFormat;
 // What a file was written as.
 #[derive(Clone, Copy)]
 pub enum EncodedBmpFormat {
-    Rgb32,
-    Rgb24,
-    Rgb16Rgb,
-    Rgb16Bitfields,
-    Indexed8,
-    Indexed4,
-    Indexed2,
-    Rle8,
-    Rle4,
-    Indexed1,
-    Bitfields,
-    AlphaBitfields,
+    Rgb32 = 0,
+    Rgb24 = 1,
+    Rgb16Rgb = 2,
+    Rgb16Bitfields = 3,
+    Indexed8 = 4,
+    Indexed4 = 5,
+    Indexed2 = 6,
+    Rle8 = 7,
+    Rle4 = 8,
+    Indexed1 = 9,
+    Bitfields = 10,
+    AlphaBitfields = 11,
 }
 
 impl EncodedBmpFormat {
@@ -28,20 +28,7 @@ impl EncodedBmpFormat {
     pub fn number(self) -> u32
         ensures { result ≡ format_number self }
     {
-        match self {
-            EncodedBmpFormat::Rgb32 => 0,
-            EncodedBmpFormat::Rgb24 => 1,
-            EncodedBmpFormat::Rgb16Rgb => 2,
-            EncodedBmpFormat::Rgb16Bitfields => 3,
-            EncodedBmpFormat::Indexed8 => 4,
-            EncodedBmpFormat::Indexed4 => 5,
-            EncodedBmpFormat::Indexed2 => 6,
-            EncodedBmpFormat::Rle8 => 7,
-            EncodedBmpFormat::Rle4 => 8,
-            EncodedBmpFormat::Indexed1 => 9,
-            EncodedBmpFormat::Bitfields => 10,
-            EncodedBmpFormat::AlphaBitfields => 11,
-        }
+        self as u32
     }
 }
 
@@ -92,6 +79,7 @@ pub fn plain_token(format: BmpPixelFormat) -> EncodedBmpFormat
 }
 
 // Entries of a full colour table; 0 at a depth that has none.
+#[tactic(auto, unfolding(crate::specs::Sizes::palette_entry_count))]
 fn palette_entry_count(bpp: u16) -> usize
     ensures { result ≡ palette_entry_count bpp }
 {
@@ -105,20 +93,20 @@ fn palette_entry_count(bpp: u16) -> usize
 }
 
 // Entries of the colour table that is written for a palette of `entries`.
+#[tactic(auto, unfolding(crate::specs::Sizes::written_palette_entries))]
 pub fn written_palette_entries(bpp: u16, entries: usize, minimal_palette: bool) -> usize
     ensures { result ≡ written_palette_entries bpp entries minimal_palette }
 {
     let full = palette_entry_count(bpp);
     if minimal_palette {
-        let count = if entries < 1 { 1 } else { entries };
-        if count < full {
-            return count;
-        }
+        entries.max(1).min(full)
+    } else {
+        full
     }
-    full
 }
 
 // biClrUsed for a table of `entries`.
+#[tactic(auto, using(crate::proofs::TableCounts::entries_le), unfolding(crate::specs::Sizes::clr_used_of))]
 pub fn clr_used(bpp: u16, entries: usize) -> u32
     ensures { result ≡ clr_used_of bpp entries }
 {

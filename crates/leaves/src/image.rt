@@ -64,71 +64,39 @@ impl BmpPixelFormat {
     pub fn is_indexed(self) -> bool
         ensures { result ≡ is_indexed self }
     {
-        match self {
-            BmpPixelFormat::Rgba => false,
-            BmpPixelFormat::Rgb24 => false,
-            BmpPixelFormat::Bgra => false,
-            BmpPixelFormat::Bgr24 => false,
-            BmpPixelFormat::Rgb555 => false,
-            BmpPixelFormat::Rgb565 => false,
-            BmpPixelFormat::Pal8 => true,
-            BmpPixelFormat::Indexed4 => true,
-            BmpPixelFormat::Indexed2 => true,
-            BmpPixelFormat::Indexed1 => true,
-        }
+        matches!(
+            self,
+            BmpPixelFormat::Pal8
+                | BmpPixelFormat::Indexed4
+                | BmpPixelFormat::Indexed2
+                | BmpPixelFormat::Indexed1
+        )
     }
 
     // Whether blue comes first.
     pub fn is_blue_first(self) -> bool
         ensures { result ≡ blue_first self }
     {
-        match self {
-            BmpPixelFormat::Rgba => false,
-            BmpPixelFormat::Rgb24 => false,
-            BmpPixelFormat::Bgra => true,
-            BmpPixelFormat::Bgr24 => true,
-            BmpPixelFormat::Rgb555 => false,
-            BmpPixelFormat::Rgb565 => false,
-            BmpPixelFormat::Pal8 => false,
-            BmpPixelFormat::Indexed4 => false,
-            BmpPixelFormat::Indexed2 => false,
-            BmpPixelFormat::Indexed1 => false,
-        }
+        matches!(self, BmpPixelFormat::Bgra | BmpPixelFormat::Bgr24)
     }
 
     // The one plain source with a 108-byte header.
     pub fn is_rgb565(self) -> bool
         ensures { result ≡ is_rgb565 self }
     {
-        match self {
-            BmpPixelFormat::Rgba => false,
-            BmpPixelFormat::Rgb24 => false,
-            BmpPixelFormat::Bgra => false,
-            BmpPixelFormat::Bgr24 => false,
-            BmpPixelFormat::Rgb555 => false,
-            BmpPixelFormat::Rgb565 => true,
-            BmpPixelFormat::Pal8 => false,
-            BmpPixelFormat::Indexed4 => false,
-            BmpPixelFormat::Indexed2 => false,
-            BmpPixelFormat::Indexed1 => false,
-        }
+        matches!(self, BmpPixelFormat::Rgb565)
     }
 
     // Whether masks can be given: samples of 8 bits.
     pub fn takes_masks(self) -> bool
         ensures { result ≡ not (mask_source self) }
     {
-        match self {
-            BmpPixelFormat::Rgba => true,
-            BmpPixelFormat::Rgb24 => true,
-            BmpPixelFormat::Bgra => true,
-            BmpPixelFormat::Bgr24 => true,
-            BmpPixelFormat::Rgb555 => false,
-            BmpPixelFormat::Rgb565 => false,
-            BmpPixelFormat::Pal8 => false,
-            BmpPixelFormat::Indexed4 => false,
-            BmpPixelFormat::Indexed2 => false,
-            BmpPixelFormat::Indexed1 => false,
-        }
+        matches!(
+            self,
+            BmpPixelFormat::Rgba
+                | BmpPixelFormat::Rgb24
+                | BmpPixelFormat::Bgra
+                | BmpPixelFormat::Bgr24
+        )
     }
 }

@@ -13,20 +13,17 @@ pub struct CalibratedRgb {
     pub gamma: [u32; 3],
 }
 
-// An absent set of masks or of calibrated colour is ignored, whatever it holds. The last three are
-// document 02's, for each screen its own.
+// The last three are document 02's, for each screen its own.
 #[derive(Clone, Copy)]
 pub struct EncodeOptions {
     pub top_down: bool,
     pub minimal_palette: bool,
     pub rle: bool,
-    pub has_bitfields: bool,
-    pub bitfields: BmpBitfields,
+    pub bitfields: Option<BmpBitfields>,
     pub embed_icc: bool,
     // bV5Intent.
     pub rendering_intent: u32,
-    pub has_calibrated_rgb: bool,
-    pub calibrated_rgb: CalibratedRgb,
+    pub calibrated_rgb: Option<CalibratedRgb>,
     // Bytes that a file may have.
     pub limit: u64,
     // biXPelsPerMeter and biYPelsPerMeter.
@@ -39,24 +36,14 @@ impl EncodeOptions {
     pub fn new() -> Self
         ensures { result ≡ defaults }
     {
-        let bitfields = BmpBitfields {
-            bpp: 0,
-            masks: [0; 4],
-        };
-        let calibrated_rgb = CalibratedRgb {
-            endpoints: [0; 9],
-            gamma: [0; 3],
-        };
         EncodeOptions {
             top_down: false,
             minimal_palette: false,
             rle: true,
-            has_bitfields: false,
-            bitfields,
+            bitfields: None,
             embed_icc: true,
             rendering_intent: LCS_GM_IMAGES,
-            has_calibrated_rgb: false,
-            calibrated_rgb,
+            calibrated_rgb: None,
             limit: MAX_FILE,
             x_pels_per_meter: PELS_PER_METER,
             y_pels_per_meter: PELS_PER_METER,

@@ -1,17 +1,24 @@
 -- Laws of messages: pieces in a row are one message.
 use mathlib.Core.Path.{◌≡◌, refl, sym, ap, subst, ◌∙◌}
 use mathlib.Core.List.{List, [], ◌∷◌, ◌++◌, append_assoc}
-use Prim.Native.Nat.{ℕ, zero, suc, ◌+◌, ◌-◌, ◌/◌, ◌%◌, ◌≤◌, ◌<◌}
-use native.Mathlib.Decide.{dec_lt}
-use native.Mathlib.Nat.{add-zero, sub-zero}
+use mathlib.Core.Bool.{Bool, true, false, cond}
+use Prim.Native.Nat.{ℕ, zero, suc, ◌+◌, ◌-◌, ◌/◌, ◌%◌, ◌^◌, ◌≤◌, ◌<◌}
+use native.Mathlib.Nat.{add-zero, sub-zero, pow-suc}
 use native.Mathlib.Numerals.{add-one}
 use native.Mathlib.Omega.{arith}
-use borrow.Author.Tests.{eq-eqb, ne_eqb, lt-ltb, le-ltb}
-use lib.ListN.{length, get_or, set, take, drop, length-set, length-take, length-append}
-use lib.Seq.{get_or-set_same, drop-set-lt, drop-cons, take-suc, take_all, take-nil}
+use borrow.Author.Tests.{eq-eqb, ne_eqb, lt-ltb, ltb-true, ltb-false}
+use lib.Dec.{ltb}
+use lib.ListN.{length, get_or, take, drop, length-take, length-append}
+use lib.Seq.{drop-cons, take-suc, take-nil}
 use Rattle.leaves.specs.Put.{put}
 use Rattle.leaves.proofs.Puts.{length-put, put-nil, put-append}
-use Rattle.messages.specs.Messages.{decimal_in, piece_for, filled, Says}
+use denote.Ref.{Bor}
+use Rattle.std.specs.List.{slice_get}
+use Rattle.std.specs.Prelude.{Some, None}
+use Rattle.std.specs.Slice.{IsItemAt}
+use Rattle.std.proofs.lemmas.Option.{slice_get-get_or, slice_get_past}
+use Rattle.std.specs.Fmt.{digit_glyph, digits_onto, digits}
+use Rattle.messages.specs.Messages.{decimal_in, decimal, piece_for, filled, Says}
 
 pub append-nil : (xs : List ℕ) → xs ++ [] ≡ xs
 append-nil [] = refl
@@ -81,21 +88,17 @@ says_none was at =
       behind = sym (add-zero at) ∙ ap (λ (l : List ℕ). at + length l) (sym e);
     }
 
--- as many bytes of a piece as fit
-pub says_piece : (was : List ℕ) (at : ℕ) (piece later : List ℕ) (n : ℕ) → n ≤ length piece → n ≤ length was - at → (n < length piece → n ≡ length was - at)
-    → later ≡ put was at (take n piece) → Says was at piece later (at + n)
-says_piece was at piece later n h k full e = record { text = e ∙ ap (put was at) whole; behind = omega (arith, ap length whole, length-take n piece) }
-  where
-    whole : take n piece ≡ take (length was - at) piece
-    whole =
-        elim (dec_lt n (length piece)) [
-          | yes p ↦ ap (λ (m : ℕ). take m piece) (full p)
-          | no p ↦ take_all n piece (omega arith) ∙ sym (take_all (length was - at) piece (omega arith))
-        ]
-
 -- the same of an equal message
 pub says_as : {was m l later : List ℕ} {at to : ℕ} → m ≡ l → Says was at m later to → Says was at l later to
 says_as {was} {m} {l} {later} {at} {to} e s = subst (λ (x : List ℕ). Says was at x later to) e s
+
+-- ---- a list's pieces
+
+pub got_is : {X : Type 0} (xs : List X) (k : ℕ) (x : Bor X) → IsItemAt xs k (Some x) → slice_get xs k ≡ Some x.now
+got_is xs k x h = slice_get-get_or xs k x.now h.3.0 ∙ ap (λ y. Some y) (sym (h.4 (omega arith) x.now))
+
+pub got_none : {X : Type 0} (xs : List X) (k : ℕ) → IsItemAt xs k None → slice_get xs k ≡ None
+got_none xs k h = slice_get_past xs k h.3
 
 -- ---- a line's marks
 
@@ -140,33 +143,35 @@ one_byte line i next h e = let n : next - i ≡ 1 = omega arith in rw (n, drop-c
 
 -- ---- digits
 
-module _ (digits : List ℕ) (from left : ℕ) (some : 0 < from) (room : from ≤ length digits) where
-  stored : drop (from - 1) (set digits (from - 1) (48 + left % 10)) ≡ (48 + left % 10) ∷ drop from digits
-  stored =
-      let e : suc (from - 1) ≡ from = omega arith in
-      let k : from - 1 < length digits = omega arith in
-      let h : from - 1 < length (set digits (from - 1) (48 + left % 10)) = rw length-set k in
-      drop-cons (set digits (from - 1) (48 + left % 10)) (from - 1) 0 h
-      ∙ rw (e, get_or-set_same digits (from - 1) (48 + left % 10) 0 k, drop-set-lt from digits (from - 1) (48 + left % 10) (omega arith))
+tenth : (k n : ℕ) → n < 10 ^ suc k → n / 10 < 10 ^ k
+tenth k n h = omega (arith, pow-suc 10 k)
 
-  -- the highest digit, and any other
-  pub digit_last : left < 10 → drop (from - 1) (set digits (from - 1) (48 + left % 10)) ≡ decimal_in from left ++ drop from digits
-  unfolding decimal_in
-  digit_last h =
-      let e : from ≡ suc (from - 1) = omega arith in
-      let m : left % 10 ≡ left = omega arith in
-      stored ∙ go (from - 1) e m
-    where
-      go : (k : ℕ) → from ≡ suc k → left % 10 ≡ left → (48 + left % 10) ∷ drop from digits ≡ decimal_in from left ++ drop from digits
-      go k e m = rw (e, m, lt-ltb left 10 h)
+places : (k n : ℕ) → n < 10 ^ suc k → 10 ≤ n → 1 ≤ k
+places zero n h some = omega arith
+places (suc k) n h some = omega arith
 
-  pub digit_more : 10 ≤ left → decimal_in (from - 1) (left / 10) ++ drop (from - 1) (set digits (from - 1) (48 + left % 10)) ≡ decimal_in from left ++ drop from digits
-  unfolding decimal_in
-  digit_more h = ap (λ (l : List ℕ). decimal_in (from - 1) (left / 10) ++ l) stored ∙ go (from - 1) (omega arith)
-    where
-      go : (k : ℕ) → from ≡ suc k → decimal_in k (left / 10) ++ ((48 + left % 10) ∷ drop from digits) ≡ decimal_in from left ++ drop from digits
-      go k e = rw (e, le-ltb left 10 h) (sym (append_assoc (decimal_in k (left / 10)) ((48 + left % 10) ∷ []) (drop (suc k) digits)))
-
-pub none_left : (digits : List ℕ) (from left : ℕ) → from ≤ 0 → drop from digits ≡ decimal_in from left ++ drop from digits
+onto_is : (fuel k n : ℕ) (more : List ℕ) → n < 10 ^ k → k ≤ fuel → 1 ≤ k → digits_onto fuel 10 false n more ≡ decimal_in k n ++ more
 unfolding decimal_in
-none_left digits from left h = let e : from ≡ 0 = omega arith in rw e
+onto_is zero k n more h room some = let z : ⊥ = omega arith in absurd z
+onto_is (suc fuel) zero n more h room some = let z : ⊥ = omega arith in absurd z
+onto_is (suc fuel) (suc k) n more h room some = go (ltb n 10) refl (onto_is fuel k (n / 10))
+  where
+    glyph : digit_glyph false (n % 10) ≡ 48 + n % 10
+    glyph = rw (lt-ltb (n % 10) 10 (omega arith))
+
+    go : (b : Bool) → ltb n 10 ≡ b → ((rest : List ℕ) → n / 10 < 10 ^ k → k ≤ fuel → 1 ≤ k → digits_onto fuel 10 false (n / 10) rest ≡ decimal_in k (n / 10) ++ rest)
+        → digits_onto (suc fuel) 10 false n more ≡ cond b ((48 + n) ∷ []) (decimal_in k (n / 10) ++ ((48 + n % 10) ∷ [])) ++ more
+    go true q f =
+        let low = ltb-true n 10 q in
+        let none : n / 10 ≡ 0 = omega arith in
+        let same : n % 10 ≡ n = omega arith in
+        rw (eq-eqb (n / 10) 0 none, glyph, same)
+    go false q f =
+        let high = ltb-false n 10 q in
+        let some_left : (n / 10 ≡ 0 → ⊥) = λ e. omega arith in
+        rw (ne_eqb (n / 10) 0 some_left, glyph) (f ((48 + n % 10) ∷ more) (tenth k n h) (omega arith) (places k n h high) ∙ sym (append_assoc (decimal_in k (n / 10)) ((48 + n % 10) ∷ []) more))
+
+-- 20 digits hold any number of 64 bits
+pub decimal_is : (n : ℕ) → n < 2 ^ 64 → digits 10 false n ≡ decimal n
+unfolding digits decimal
+decimal_is n h = onto_is 64 20 n [] (omega arith) (omega arith) (omega arith) ∙ append-nil (decimal_in 20 n)

@@ -7,15 +7,13 @@ fn with_byte(sum: u32, byte: u8) -> u32
     ensures { result ≡ crc_byte sum byte }
 {
     let mut r = sum ^ ((byte as u32) << 24);
-    let mut i: usize = 0;
-    while i < 8 {
+    for _bit in 0..8u32 {
         let moved = r << 1;
         r = if r < 0x8000_0000 {
             moved
         } else {
             moved ^ 0x04C1_1DB7
         };
-        i += 1;
     }
     r
 }
@@ -24,10 +22,8 @@ fn of_bytes(bytes: &[u8]) -> u32
     ensures { result ≡ crc_of 0 bytes.now }
 {
     let mut sum = 0;
-    let mut i = 0;
-    while i < bytes.len() {
-        sum = with_byte(sum, bytes[i]);
-        i += 1;
+    for byte in bytes {
+        sum = with_byte(sum, *byte);
     }
     sum
 }

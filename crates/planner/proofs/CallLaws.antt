@@ -8,13 +8,12 @@ use borrow.Author.Tests.{ltb-false, lt-ltb, le-ltb}
 use lib.Dec.{ltb}
 use lib.ListN.{length, get_or, take, drop}
 use lib.Seq.{get_or-take}
-use Rattle.leaves.specs.declared.error.Check.{Check}
-use Rattle.leaves.specs.declared.error.Check.TheVariants.{Passed, Refused}
+use Rattle.std.proofs.Common.{Ok, Err}
 use Rattle.leaves.specs.declared.error.Refusal.{Refusal}
 use Rattle.leaves.specs.declared.error.Refusal.TheVariants.{FileTooLarge, BufferTooShort, StreamOverBudget, StartsTooShort}
 use Rattle.leaves.specs.Put.{put}
 use Rattle.leaves.specs.Lists.{tab}
-use Rattle.leaves.specs.Refusals.{check_number, first_of, or_else}
+use Rattle.leaves.specs.Refusals.{check_number, first_of, or_else, Check}
 use Rattle.format.specs.Demand.{Demand3}
 use Rattle.leaves.specs.Sizes.{clr_used_of}
 use Rattle.format.specs.declared.layout.Layout.{Layout}
@@ -35,9 +34,7 @@ use Rattle.format.proofs.Passing.{or_false, first_parts, row_parts}
 use Rattle.format.proofs.Readings.{demand3}
 use Rattle.format.proofs.RowStarts.{row_shown}
 use Rattle.rows.proofs.StartLaws.{noted_ext, noted_all}
-use Rattle.planner.specs.declared.encoder.Encoded.{Encoded}
-use Rattle.planner.specs.declared.encoder.Encoded.TheVariants as encoded
-use Rattle.planner.specs.Answers.{encoded_number, encoded_bytes, encoded_format, bytes_for, format_for, later_for, starts_for, WrittenBy, Written, WrittenWithStarts}
+use Rattle.planner.specs.Answers.{EncodeAnswer, encoded_number, encoded_bytes, encoded_format, bytes_for, format_for, later_for, starts_for, WrittenBy, Written, WrittenWithStarts}
 use Rattle.planner.specs.declared.plan.Sizes.{Sizes}
 use Rattle.planner.specs.Calls.{chosen}
 use Rattle.planner.specs.Plans.{sizes_by, Planned, encoded_for, stream_check, list_rows, noted_for, Wrote}
@@ -53,32 +50,32 @@ module _ (i : Input) (room offset entries needed : ℕ) where
   decided = first_of (list_rows (limit_in i) i room offset entries needed)
 
   -- a plan that is refused
-  pub refused_plan : (why : Refusal) → first_of (plan_rows (limit_in i) i) ≡ Refused why → decided ≡ Refused why
+  pub refused_plan : (why : Refusal) → first_of (plan_rows (limit_in i) i) ≡ Err why → decided ≡ Err why
   unfolding list_rows
   refused_plan why e = first_stop (plan_rows (limit_in i) i) writing why e
 
   -- what is left once the plan is ready
-  after_plan : first_of (plan_rows (limit_in i) i) ≡ Passed
-      → decided ≡ cond (buffer_too_short (limit_in i) i room offset) (Refused BufferTooShort) (cond (ltb entries needed) (Refused StartsTooShort) (stream_check i))
+  after_plan : first_of (plan_rows (limit_in i) i) ≡ Ok tt
+      → decided ≡ cond (buffer_too_short (limit_in i) i room offset) (Err BufferTooShort) (cond (ltb entries needed) (Err StartsTooShort) (stream_check i))
   unfolding list_rows
   after_plan e = first_pass (plan_rows (limit_in i) i) writing e
 
   -- 15 applies
-  pub short_stops : (bound : ℕ) (r : Bool) → first_of (plan_rows (limit_in i) i) ≡ Passed → bound ≡ bound_of (limit_in i) i
-      → r ≡ (ltb room offset || ltb (room - offset) bound) → r ≡ true → decided ≡ Refused BufferTooShort
+  pub short_stops : (bound : ℕ) (r : Bool) → first_of (plan_rows (limit_in i) i) ≡ Ok tt → bound ≡ bound_of (limit_in i) i
+      → r ≡ (ltb room offset || ltb (room - offset) bound) → r ≡ true → decided ≡ Err BufferTooShort
   unfolding buffer_too_short
   short_stops bound r p b e t =
       let short : (ltb room offset || ltb (room - offset) (bound_of (limit_in i) i)) ≡ true = ap (λ (n : ℕ). ltb room offset || ltb (room - offset) n) (sym b) ∙ sym e ∙ t in
-      after_plan p ∙ ap (λ (s : Bool). cond s (Refused BufferTooShort) (cond (ltb entries needed) (Refused StartsTooShort) (stream_check i))) short
+      after_plan p ∙ ap (λ (s : Bool). cond s (Err BufferTooShort) (cond (ltb entries needed) (Err StartsTooShort) (stream_check i))) short
 
   -- 15 does not apply: the buffer has room, and 24 and 16 decide
   pub record RoomLeft (bound : ℕ) : Type 0 where
-    pub outcome : decided ≡ cond (ltb entries needed) (Refused StartsTooShort) (stream_check i)
+    pub outcome : decided ≡ cond (ltb entries needed) (Err StartsTooShort) (stream_check i)
     pub inside : offset ≤ room
     pub long : offset + bound ≤ room
 
   -- the test of the room says so
-  pub room_left : (bound : ℕ) (r : Bool) → first_of (plan_rows (limit_in i) i) ≡ Passed → bound ≡ bound_of (limit_in i) i
+  pub room_left : (bound : ℕ) (r : Bool) → first_of (plan_rows (limit_in i) i) ≡ Ok tt → bound ≡ bound_of (limit_in i) i
       → r ≡ (ltb room offset || ltb (room - offset) bound) → r ≡ false → RoomLeft bound
   unfolding buffer_too_short
   room_left bound r p b e t =
@@ -87,20 +84,20 @@ module _ (i : Input) (room offset entries needed : ℕ) where
       let before = ltb-false room offset both.0 in
       let after = ltb-false (room - offset) (bound_of (limit_in i) i) both.1 in
       record {
-        outcome = after_plan p ∙ ap (λ (s : Bool). cond s (Refused BufferTooShort) (cond (ltb entries needed) (Refused StartsTooShort) (stream_check i))) long;
+        outcome = after_plan p ∙ ap (λ (s : Bool). cond s (Err BufferTooShort) (cond (ltb entries needed) (Err StartsTooShort) (stream_check i))) long;
         inside = before;
         long = omega (arith, before, after, b);
       }
 
   -- 24 applies, and it does not
-  pub starts_stop : {bound : ℕ} → RoomLeft bound → entries < needed → decided ≡ Refused StartsTooShort
+  pub starts_stop : {bound : ℕ} → RoomLeft bound → entries < needed → decided ≡ Err StartsTooShort
   starts_stop r h = r.outcome ∙ rw (lt-ltb entries needed h)
 
   pub starts_left : {bound : ℕ} → RoomLeft bound → needed ≤ entries → decided ≡ stream_check i
   starts_left r h = r.outcome ∙ rw (le-ltb entries needed h)
 
   -- a call that this table lets pass, the first call's lets pass too, and its list has the entries
-  pub list_passed : decided ≡ Passed → (first_of (write_rows (limit_in i) i room offset) ≡ Passed) × (needed ≤ entries)
+  pub list_passed : decided ≡ Ok tt → (first_of (write_rows (limit_in i) i room offset) ≡ Ok tt) × (needed ≤ entries)
   unfolding list_rows write_rows
   list_passed e =
       let all = first_parts (plan_rows (limit_in i) i) writing e in
@@ -115,7 +112,7 @@ pub long_list : (i : Input) (room offset entries needed : ℕ) → needed ≤ en
 unfolding list_rows write_rows
 long_list i room offset entries needed h =
     first-or (plan_rows (limit_in i) i) _
-    ∙ ap (λ (b : Bool). or_else (first_of (plan_rows (limit_in i) i)) (cond (buffer_too_short (limit_in i) i room offset) (Refused BufferTooShort) (cond b (Refused StartsTooShort) (stream_check i)))) (le-ltb entries needed h)
+    ∙ ap (λ (b : Bool). or_else (first_of (plan_rows (limit_in i) i)) (cond (buffer_too_short (limit_in i) i room offset) (Err BufferTooShort) (cond b (Err StartsTooShort) (stream_check i)))) (le-ltb entries needed h)
     ∙ sym (first-or (plan_rows (limit_in i) i) ((buffer_too_short (limit_in i) i room offset, BufferTooShort) ∷ (stream_over_budget (limit_in i) i, StreamOverBudget) ∷ []))
 
 -- with as many as the height it is the second's
@@ -177,15 +174,15 @@ module _ (i : Input) (profile : List ℕ) (e : profile ≡ tail_of i) where
   same_answer = ap (λ (c : Check). encoded_for c same) same_check ∙ go (stream_check i)
     where
       go : (c : Check) → encoded_for c same ≡ encoded_for c i
-      go Passed = λ z. encoded.File (format_of (limit_in i) i) (same_size z)
-      go (Refused why) = refl
+      go (Ok passed) = λ z. Ok (record { format = format_of (limit_in i) i; bytes = same_size z })
+      go (Err why) = refl
 
   pub same_later : (at : ℕ) (d : List ℕ) → later_for (stream_check same) same at d ≡ later_for (stream_check i) i at d
   same_later at d = ap (λ (c : Check). later_for c same at d) same_check ∙ go (stream_check i)
     where
       go : (c : Check) → later_for c same at d ≡ later_for c i at d
-      go Passed = ap (put d at) same_file
-      go (Refused why) = refl
+      go (Ok passed) = ap (put d at) same_file
+      go (Err why) = refl
 
   same_start : (s : ℕ) → row_start (limit_in i) same s ≡ row_start (limit_in i) i s
   unfolding row_start pixel_row stream_used budget stream_of
@@ -196,17 +193,17 @@ module _ (i : Input) (profile : List ℕ) (e : profile ≡ tail_of i) where
   same_noted was = ap (λ (c : Check). noted_for c same was) same_check ∙ go (stream_check i)
     where
       go : (c : Check) → noted_for c same was ≡ noted_for c i was
-      go Passed = noted_ext (row_start (limit_in i) same) (row_start (limit_in i) i) was i.source.height same_start
-      go (Refused why) = refl
+      go (Ok passed) = noted_ext (row_start (limit_in i) same) (row_start (limit_in i) i) was i.source.height same_start
+      go (Err why) = refl
 
 -- ---- the promises
 
 -- a refusal is no pass
-refused : (why : Refusal) → Refused why ≡ Passed → ⊥
+refused : (why : Refusal) → ◌≡◌ {A = Check} (Err why) (Ok tt) → ⊥
 refused why e = let q : true ≡ false = cc in false≢true (sym q)
 
 -- a refusal: nothing is changed
-pub wrote_refused : (c : Check) (i : Input) (offset : ℕ) (was starts : List ℕ) (r : Encoded) (why : Refusal) → c ≡ Refused why → r ≡ encoded.Refused why
+pub wrote_refused : (c : Check) (i : Input) (offset : ℕ) (was starts : List ℕ) (r : EncodeAnswer) (why : Refusal) → c ≡ Err why → r ≡ Err why
     → Wrote c i offset was was starts starts r
 wrote_refused c i offset was starts r why e answer =
     record {
@@ -218,29 +215,29 @@ wrote_refused c i offset was starts r why e answer =
     }
 
 number_for : (c : Check) (i : Input) → encoded_number (encoded_for c i) ≡ check_number c
-number_for Passed i = refl
-number_for (Refused why) i = refl
+number_for (Ok passed) i = refl
+number_for (Err why) i = refl
 
 bytes-for : (c : Check) (i : Input) → encoded_bytes (encoded_for c i) ≡ bytes_for c i
-bytes-for Passed i = refl
-bytes-for (Refused why) i = refl
+bytes-for (Ok passed) i = refl
+bytes-for (Err why) i = refl
 
 format_for_lem : (c : Check) (i : Input) → encoded_format (encoded_for c i) ≡ format_for c i
-format_for_lem Passed i = refl
-format_for_lem (Refused why) i = refl
+format_for_lem (Ok passed) i = refl
+format_for_lem (Err why) i = refl
 
 -- the appended bytes are the file
 appended : (i : Input) (offset : ℕ) (was : List ℕ) → offset ≤ length was → file_of (limit_in i) i ≡ take (file_size_of (limit_in i) i) (drop offset (put was offset (file_of (limit_in i) i)))
 appended i offset was h =
     sym (inside_put was offset (file_of (limit_in i) i) h) ∙ ap (λ (n : ℕ). take n (drop offset (put was offset (file_of (limit_in i) i)))) (length_file i)
 
-module _ (c : Check) (i : Input) (offset : ℕ) (was later starts later_starts : List ℕ) (r : Encoded) (w : Wrote c i offset was later starts later_starts r) where
+module _ (c : Check) (i : Input) (offset : ℕ) (was later starts later_starts : List ℕ) (r : EncodeAnswer) (w : Wrote c i offset was later starts later_starts r) where
   -- a number of 0 is a pass
-  passed : encoded_number r ≡ 0 → c ≡ Passed
-  passed z = check_determined c Passed (sym (ap encoded_number w.answers ∙ number_for c i) ∙ z)
+  passed : encoded_number r ≡ 0 → c ≡ Ok tt
+  passed z = check_determined c (Ok tt) (sym (ap encoded_number w.answers ∙ number_for c i) ∙ z)
 
   -- then the appended bytes are the file
-  bytes_are : c ≡ Passed → file_of (limit_in i) i ≡ take (encoded_bytes r) (drop offset later)
+  bytes_are : c ≡ Ok tt → file_of (limit_in i) i ≡ take (encoded_bytes r) (drop offset later)
   bytes_are q =
       let n : file_size_of (limit_in i) i ≡ encoded_bytes r = sym (ap encoded_bytes w.answers ∙ ap (λ (k : Check). encoded_bytes (encoded_for k i)) q) in
       let l : put was offset (file_of (limit_in i) i) ≡ later = sym (w.buffer ∙ ap (λ (k : Check). later_for k i offset was) q) in
@@ -258,17 +255,17 @@ module _ (c : Check) (i : Input) (offset : ℕ) (was later starts later_starts :
       }
 
   -- and of the list, where it has an entry for each row
-  module _ (long : c ≡ Passed → i.source.height ≤ length starts) where
+  module _ (long : c ≡ Ok tt → i.source.height ≤ length starts) where
     list_is : later_starts ≡ starts_for c i starts
     unfolding starts_of
     list_is = w.list ∙ go c long
       where
-        go : (c : Check) → (c ≡ Passed → i.source.height ≤ length starts) → noted_for c i starts ≡ starts_for c i starts
-        go Passed h = noted_all (row_start (limit_in i) i) starts i.source.height (h refl)
-        go (Refused why) h = refl
+        go : (c : Check) → (c ≡ Ok tt → i.source.height ≤ length starts) → noted_for c i starts ≡ starts_for c i starts
+        go (Ok passed) h = noted_all (row_start (limit_in i) i) starts i.source.height (h refl)
+        go (Err why) h = refl
 
     -- entry s of it
-    entry : (s : ℕ) → c ≡ Passed → s < i.source.height → get_or later_starts s 0 ≡ row_start (limit_in i) i s
+    entry : (s : ℕ) → c ≡ Ok tt → s < i.source.height → get_or later_starts s 0 ≡ row_start (limit_in i) i s
     unfolding starts_of
     entry s q l =
         let all : List ℕ = tab (row_start (limit_in i) i) i.source.height in
@@ -286,14 +283,14 @@ module _ (c : Check) (i : Input) (offset : ℕ) (was later starts later_starts :
     list_by = (list_is, rows_from)
 
 -- the promise of the first call
-pub written_alone : (i : Input) (offset entries : ℕ) (was later starts later_starts : List ℕ) (r : Encoded)
+pub written_alone : (i : Input) (offset entries : ℕ) (was later starts later_starts : List ℕ) (r : EncodeAnswer)
     → Wrote (first_of (list_rows (limit_in i) i (length was) offset entries 0)) i offset was later starts later_starts r → Written i offset was later r
 written_alone i offset entries was later starts later_starts r w =
     subst (λ (c : Check). WrittenBy c i offset was later r) (long_list i (length was) offset entries 0 (omega arith))
     (written_by (first_of (list_rows (limit_in i) i (length was) offset entries 0)) i offset was later starts later_starts r w)
 
 -- and of the second
-pub written_with_starts : (i : Input) (offset : ℕ) (was later starts later_starts : List ℕ) (r : Encoded)
+pub written_with_starts : (i : Input) (offset : ℕ) (was later starts later_starts : List ℕ) (r : EncodeAnswer)
     → Wrote (first_of (list_rows (limit_in i) i (length was) offset (length starts) i.source.height)) i offset was later starts later_starts r
     → WrittenWithStarts i offset was later starts later_starts r
 written_with_starts i offset was later starts later_starts r w =

@@ -7,9 +7,9 @@ use native.Mathlib.Omega.{arith}
 use borrow.Author.Tests.{eqb-true}
 use lib.Dec.{eqb}
 use lib.ListN.{length, length-append}
+use Rattle.std.proofs.Common.{Ok, Option, Some, None, is_some}
 use Rattle.leaves.specs.declared.encoder.EncodedBmpFormat.{EncodedBmpFormat}
 use Rattle.leaves.specs.declared.encoder.EncodedBmpFormat.TheVariants as written
-use Rattle.leaves.specs.declared.error.Check.TheVariants.{Passed}
 use Rattle.leaves.specs.declared.image.BmpPixelFormat.{BmpPixelFormat}
 use Rattle.leaves.specs.Formats.{bytes_per_pixel, bits_per_pixel}
 use Rattle.leaves.specs.Put.{put}
@@ -23,13 +23,11 @@ use Rattle.rows.specs.StoredRows.{pack_bits, pack_bytes, PackOk, stored_rows}
 use Rattle.rows.specs.Starts.{noted}
 use Rattle.rows.specs.Stream.{stream, stream_start}
 use Rattle.rows.proofs.StartLaws.{noted_ext}
-use Rattle.format.specs.declared.layout.Coding.{Coding}
-use Rattle.format.specs.declared.layout.Coding.TheVariants.{Stream, Nothing}
 use Rattle.format.specs.declared.layout.Layout.{Layout}
 use Rattle.format.specs.declared.layout.Mode.TheVariants.{Plain}
 use Rattle.format.specs.File.{mode_in, depth_in, pack_in, rle_planned, raw_bytes, entries_of, head_bytes_of, tail_of, stream_of, max_file, limit_in, budget, stream_used, stored_rows_of, pixels, table_entry, colour_table, stored_height_of, compression_of, image_size_of, x_pels_in, y_pels_in, head_of, file_size_of, file_of, plain_size_of, format_of}
 use Rattle.format.specs.Input.{Input}
-use Rattle.format.specs.Layout.{header_size_of, head_rest, head_len, raw_len, rows_compression, rows_format, coding_at, is_stream, coding_of, layout_of}
+use Rattle.format.specs.Layout.{header_size_of, head_rest, head_len, raw_len, rows_compression, rows_format, coding_at, coding_of, layout_of}
 use Rattle.format.specs.Starts.{row_start}
 use Rattle.format.proofs.Acceptance.{Checked, rows_long, plan_passed}
 use Rattle.format.proofs.FileSizes.{pack_ok, rows_pixels}
@@ -39,9 +37,9 @@ use Rattle.format.proofs.ImageSize.{compressed_size, stream_compression}
 use Rattle.format.proofs.Modes.{coded_cases, PlannedIn, planned_in, used_in, tail_empty, no_tail}
 use Rattle.format.proofs.PlainBody.{pack_bytes_lem}
 use Rattle.format.proofs.RowStarts.{start_coded, start_stored}
-use Rattle.planner.specs.declared.encoder.Encoded.TheVariants as encoded
+use Rattle.planner.specs.declared.encoder.Encoded.{Encoded}
 use Rattle.planner.specs.declared.plan.Sizes.{Sizes}
-use Rattle.planner.specs.Plans.{sizes_by, layout_in, sizes_of, Planned, Streamed, first_fields, head_by, noted_for}
+use Rattle.planner.specs.Plans.{encoded_in, sizes_by, layout_in, sizes_of, Planned, Streamed, first_fields, head_by, noted_for}
 use Rattle.planner.proofs.HeadLaws.{put_next}
 use Rattle.planner.proofs.LayoutLaws.{coding_planned}
 
@@ -93,6 +91,11 @@ head_plain i c im n a b x y e =
       clr_used = clr_used_of (depth_in i) (entries_of i);
     }) ++ same z ++ cat (table_entry i.palette) (entries_of i)
 
+-- a layout's mode is the call's
+pub mode_is : (i : Input) (l : Layout) → l ≡ layout_in i → l.mode ≡ mode_in i
+unfolding layout_of
+mode_is i l e = ap (λ (x : Layout). x.mode) e
+
 -- what the head's writer asks
 pub head_asked : (i : Input) (l : Layout) (head : ℕ) → l ≡ layout_in i → head ≡ head_bytes_of i
     → (l.entries ≤ 256) × (head ≡ 54 + length (head_rest l.mode i.source i.options 0 0) + 4 * l.entries)
@@ -105,32 +108,32 @@ head_asked i l head e h = (
 -- ---- a stream
 
 -- the coding that a depth has
-rle_in : Coding → Rle
-rle_in (Stream rle) = rle
-rle_in Nothing = Rle8
+rle_in : Option Rle → Rle
+rle_in (Some rle) = rle
+rle_in None = Rle8
 
 -- is of that depth, 8 or 4
-coding_depth : (d : ℕ) (rle : Rle) → coding_at d ≡ Stream rle → (codes.depth_of (codes.is_rle4 rle) ≡ d) × (codes.is_rle4 rle ≡ not (eqb d 8))
+coding_depth : (d : ℕ) (rle : Rle) → coding_at d ≡ Some rle → (codes.depth_of (codes.is_rle4 rle) ≡ d) × (codes.is_rle4 rle ≡ not (eqb d 8))
 unfolding rle_in
 coding_depth d rle e = go (eqb d 8) (eqb d 4) refl refl e
   where
-    go : (a b : Bool) → eqb d 8 ≡ a → eqb d 4 ≡ b → cond a (Stream Rle8) (cond b (Stream Rle4) Nothing) ≡ Stream rle → (codes.depth_of (codes.is_rle4 rle) ≡ d) × (codes.is_rle4 rle ≡ not a)
-    go true b p q r = (sym (ap (λ (c : Coding). codes.depth_of (codes.is_rle4 (rle_in c))) r) ∙ sym (eqb-true d 8 p), sym (ap (λ (c : Coding). codes.is_rle4 (rle_in c)) r))
-    go false true p q r = (sym (ap (λ (c : Coding). codes.depth_of (codes.is_rle4 (rle_in c))) r) ∙ sym (eqb-true d 4 q), sym (ap (λ (c : Coding). codes.is_rle4 (rle_in c)) r))
-    go false false p q r = absurd (false≢true (ap is_stream r))
+    go : (a b : Bool) → eqb d 8 ≡ a → eqb d 4 ≡ b → cond a (Some Rle8) (cond b (Some Rle4) None) ≡ Some rle → (codes.depth_of (codes.is_rle4 rle) ≡ d) × (codes.is_rle4 rle ≡ not a)
+    go true b p q r = (sym (ap (λ (c : Option Rle). codes.depth_of (codes.is_rle4 (rle_in c))) r) ∙ sym (eqb-true d 8 p), sym (ap (λ (c : Option Rle). codes.is_rle4 (rle_in c)) r))
+    go false true p q r = (sym (ap (λ (c : Option Rle). codes.depth_of (codes.is_rle4 (rle_in c))) r) ∙ sym (eqb-true d 4 q), sym (ap (λ (c : Option Rle). codes.is_rle4 (rle_in c)) r))
+    go false false p q r = absurd (false≢true (ap is_some r))
 
-module _ (i : Input) (l : Layout) (rle : Rle) (el : l ≡ layout_in i) (ec : l.coding ≡ Stream rle) where
-  coding_is : coding_of i.source i.options ≡ Stream rle
+module _ (i : Input) (l : Layout) (rle : Rle) (el : l ≡ layout_in i) (ec : l.coding ≡ Some rle) where
+  coding_is : coding_of i.source i.options ≡ Some rle
   unfolding layout_of
   coding_is = sym (ap (λ (x : Layout). x.coding) el) ∙ ec
 
   -- a layout with a stream plans RLE
   pub stream_planned : rle_planned i ≡ true
-  stream_planned = sym (coding_planned i.source i.options) ∙ ap is_stream coding_is
+  stream_planned = sym (coding_planned i.source i.options) ∙ ap is_some coding_is
 
-  at_depth : coding_at (bits_per_pixel i.source.format) ≡ Stream rle
+  at_depth : coding_at (bits_per_pixel i.source.format) ≡ Some rle
   unfolding coding_of
-  at_depth = sym (ap (λ (b : Bool). cond b (coding_at (bits_per_pixel i.source.format)) Nothing) stream_planned) ∙ coding_is
+  at_depth = sym (ap (λ (b : Bool). cond b (coding_at (bits_per_pixel i.source.format)) None) stream_planned) ∙ coding_is
 
   -- its coding is the source's
   pub stream-coded : stream (codes.depth_of (codes.is_rle4 rle)) i.source.width i.source.height i.plane i.source.stride ≡ stream_of i
@@ -188,9 +191,9 @@ module _ (i : Input) (l : Layout) (sizes : Sizes) (rle : Rle) (len : ℕ) (k : S
 
   -- the answer
   pub stream-answer : (format : EncodedBmpFormat) → format ≡ cond (codes.is_rle4 rle) written.Rle4 written.Rle8
-      → encoded.File format (sizes.head + len) ≡ encoded.File (format_of (limit_in i) i) (file_size_of (limit_in i) i)
+      → ◌≡◌ {A = Encoded} (record { format = format; bytes = sizes.head + len }) (encoded_in i)
   unfolding format_of
-  stream-answer format e = λ z. encoded.File ((e ∙ by_coding written.Rle8 written.Rle4 (rows_format i.source i.options)) z) (stream-size z)
+  stream-answer format e = λ z. record { format = (e ∙ by_coding written.Rle8 written.Rle4 (rows_format i.source i.options)) z; bytes = stream-size z }
 
   -- the file
   pub stream_written : (d b1 b2 : List ℕ) (at compression : ℕ) → compression ≡ cond (codes.is_rle4 rle) 2 1 → at + sizes.head + len ≤ length d
@@ -215,7 +218,7 @@ module _ (i : Input) (l : Layout) (sizes : Sizes) (rle : Rle) (len : ℕ) (k : S
   -- the starts of its rows, in a file that begins at `at`
   pub stream-noted : (at : ℕ) (was later : List ℕ)
       → later ≡ noted (λ s. at + sizes.head - at + stream_start (codes.depth_of (codes.is_rle4 rle)) i.source.width i.source.height i.plane i.source.stride s) was i.source.height
-      → later ≡ noted_for Passed i was
+      → later ≡ noted_for (Ok tt) i was
   stream-noted at was later e =
       let p = k.planned in
       e
@@ -254,12 +257,12 @@ module _ (i : Input) (l : Layout) (sizes : Sizes) (p : Planned i l sizes) where
     rows_size = sizes_file i sizes p.sizes_are ∙ omega (arith, ap length (rows_pixels (limit_in i) i u), rows_long i rows_checked)
 
     -- the answer
-    pub rows_answer : encoded.File l.format sizes.file ≡ encoded.File (format_of (limit_in i) i) (file_size_of (limit_in i) i)
+    pub rows_answer : ◌≡◌ {A = Encoded} (record { format = l.format; bytes = sizes.file }) (encoded_in i)
     unfolding format_of layout_of
     rows_answer =
         let f : l.format ≡ format_of (limit_in i) i = ap (λ (x : Layout). x.format) p.layout_is
         ∙ sym (ap (λ (b : Bool). cond b (cond (eqb (bits_per_pixel i.source.format) 8) written.Rle8 written.Rle4) (rows_format i.source i.options)) u) in
-        λ z. encoded.File (f z) (rows_size z)
+        λ z. record { format = f z; bytes = rows_size z }
 
     -- the file
     pub rows_written : (d b1 b2 b3 profile : List ℕ) (at image : ℕ) → profile ≡ tail_of i → image ≡ cond (eqb l.compression 0) (cond (eqb l.header_size 40) 0 sizes.raw) sizes.raw → at + sizes.head + sizes.raw ≤ length d
@@ -289,7 +292,7 @@ module _ (i : Input) (l : Layout) (sizes : Sizes) (p : Planned i l sizes) where
 
     -- the starts of the rows, in a file that begins at `at`
     pub rows_noted : (at : ℕ) (was later : List ℕ) → later ≡ noted (λ s. at + sizes.head - at + s * row_stride i.source.width (pack_bits l.pack)) was i.source.height
-        → later ≡ noted_for Passed i was
+        → later ≡ noted_for (Ok tt) i was
     rows_noted at was later e =
         let head : at + sizes.head - at ≡ head_bytes_of i = omega (arith, sizes_head i sizes p.sizes_are) in
         e

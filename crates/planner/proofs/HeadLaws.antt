@@ -10,7 +10,7 @@ use lib.ListN.{length, get_or, take, length-take, length-append, get_or-map}
 use mir.Syntax.{w32}
 use mir.Val.{of_z}
 use lib.Seq.{take-suc, take_all}
-use Rattle.leaves.specs.Bytes.{le16, le32}
+use Rattle.leaves.specs.Bytes.{le16, le32, length-le32}
 use Rattle.leaves.specs.Lists.{cat}
 use Rattle.leaves.specs.Masks.{has_alpha_mask}
 use Rattle.leaves.specs.Put.{put}
@@ -19,7 +19,7 @@ use Rattle.format.specs.Layout.{mask_tail}
 use Rattle.format.specs.Headers.{dwords, file_header, info_header, v4_fields, longs}
 use Rattle.planner.specs.declared.heads.FirstFields.{FirstFields}
 use Rattle.planner.specs.Plans.{first_fields}
-use Rattle.leaves.proofs.ListLaws.{length-cat, length-le32}
+use Rattle.leaves.proofs.ListLaws.{length-cat}
 use Rattle.leaves.proofs.Puts.{put-append}
 use Rattle.format.proofs.HeadTable.{dwords-length, mask_tail_lem, longs-length}
 

@@ -6,24 +6,32 @@ use Prim.Native.Nat.{ℕ, ◌+◌, ◌-◌, ◌*◌, ◌≤◌}
 use native.Mathlib.Omega.{arith}
 use lib.IntN.{pos}
 use lib.ListN.{length, replicate, length-append}
+use Rattle.std.proofs.Common.{Option, is_some}
+use Rattle.std.specs.Prelude.{IsSome}
 use Rattle.leaves.specs.declared.encoder.EncodeSource.{EncodeSource}
 use Rattle.leaves.specs.declared.options.EncodeOptions.{EncodeOptions}
 use Rattle.leaves.specs.Bytes.{le32}
 use Rattle.leaves.specs.Formats.{is_rgb565}
 use Rattle.leaves.specs.Lists.{cat}
 use Rattle.leaves.specs.Put.{put}
+use Rattle.leaves.specs.Refusals.{profile_mode}
 use Rattle.format.specs.declared.layout.Layout.{Layout}
 use Rattle.format.specs.declared.layout.Mode.{Mode}
 use Rattle.format.specs.declared.layout.Mode.TheVariants.{Masked, Calibrated, Profiled, Plain}
 use Rattle.format.specs.File.{table_entry}
 use Rattle.format.specs.Headers.{dwords, v4_fields, v5_fields, longs}
-use Rattle.format.specs.Layout.{long_masks, mask_tail, head_rest}
+use Rattle.format.specs.Layout.{mode_of, is_masked, long_masks, mask_tail, head_rest}
 use Rattle.leaves.proofs.Puts.{put-nil}
+use Rattle.leaves.specs.Options.{bitfields_in, calibrated_in}
 use Rattle.format.proofs.HeadFields.{length-file_header, length-info_header, rest_length}
+use Rattle.format.proofs.Modes.{given_mode}
 use Rattle.format.proofs.HeadTable.{v4_length, four_masks, longs-length}
 use Rattle.planner.specs.declared.heads.FirstFields.{FirstFields}
 use Rattle.planner.specs.Plans.{first_fields, rest_len}
 use Rattle.planner.proofs.HeadLaws.{put_next}
+
+some_is : {A : Type 0} (x : Option A) → is_some x ≡ true → IsSome x
+some_is x e = rw e
 
 -- ---- what stands between the first 40 bytes of the info header and the colour table
 
@@ -37,14 +45,14 @@ module _ (m : Mode) (s : EncodeSource) (o : EncodeOptions) (size at : ℕ) where
   by_mode : (n : Mode) → m ≡ n → head_rest n s o size at ≡ head_rest m s o size at
   by_mode n e = sym (ap (λ (x : Mode). head_rest x s o size at) e)
 
-  pub rest_masked : m ≡ Masked → mask_tail o.bitfields.masks ≡ head_rest m s o size at
+  pub rest_masked : m ≡ Masked → mask_tail (bitfields_in o).masks ≡ head_rest m s o size at
   unfolding head_rest
   rest_masked e = by_mode Masked e
 
   pub rest_calibrated : (masks : List ℕ) → m ≡ Calibrated → masks ≡ long_masks s.format
-      → v4_fields masks 0 (longs o.calibrated_rgb.endpoints) o.calibrated_rgb.gamma ≡ head_rest m s o size at
+      → v4_fields masks 0 (longs (calibrated_in o).endpoints) (calibrated_in o).gamma ≡ head_rest m s o size at
   unfolding head_rest
-  rest_calibrated masks e f = ap (λ (x : List ℕ). v4_fields x 0 (longs o.calibrated_rgb.endpoints) o.calibrated_rgb.gamma) f ∙ by_mode Calibrated e
+  rest_calibrated masks e f = ap (λ (x : List ℕ). v4_fields x 0 (longs (calibrated_in o).endpoints) (calibrated_in o).gamma) f ∙ by_mode Calibrated e
 
   pub rest_profiled : (d b c masks : List ℕ) (place space : ℕ) → m ≡ Profiled → masks ≡ long_masks s.format → space ≡ cond s.has_linked_icc 0x4C494E4B 0x4D424544 → place + 84 ≤ length d
       → b ≡ put d place (v4_fields masks space (longs (replicate 9 (pos 0))) (replicate 3 0)) → c ≡ put b (place + 68) (dwords (o.rendering_intent ∷ at ∷ size ∷ 0 ∷ []))
@@ -70,13 +78,33 @@ module _ (m : Mode) (s : EncodeSource) (o : EncodeOptions) (size at : ℕ) where
       sym (put-nil d place)
       ∙ ap (put d place) (sym (ap (λ (b : Bool). cond b (v4_fields (long_masks s.format) 0x73524742 (replicate 9 0) (replicate 3 0)) []) t) ∙ by_mode Plain e)
 
+-- what a mode's fields are taken from is given
+pub masks_given : (m : Mode) (s : EncodeSource) (o : EncodeOptions) → m ≡ mode_of s o → m ≡ Masked → IsSome o.bitfields
+masks_given m s o e q = some_is o.bitfields (given_mode s o ∙ ap is_masked (sym e ∙ q))
+
+pub colour_given : (m : Mode) (s : EncodeSource) (o : EncodeOptions) → m ≡ mode_of s o → m ≡ Calibrated → IsSome o.calibrated_rgb
+unfolding mode_of
+colour_given m s o e q = some_is o.calibrated_rgb (go (is_some o.bitfields) (is_some o.calibrated_rgb) (profile_mode s.has_linked_icc s.has_icc o.embed_icc) (sym e ∙ q))
+  where
+    is_calibrated : Mode → Bool
+    is_calibrated Masked = false
+    is_calibrated Calibrated = true
+    is_calibrated Profiled = false
+    is_calibrated Plain = false
+
+    go : (a b c : Bool) → cond a Masked (cond b Calibrated (cond c Profiled Plain)) ≡ Calibrated → b ≡ true
+    go a true c q = refl
+    go true false c q = ap is_calibrated q
+    go false false true q = ap is_calibrated q
+    go false false false q = ap is_calibrated q
+
 -- its length
-pub rest_room : (m : Mode) (s : EncodeSource) (o : EncodeOptions) → length o.calibrated_rgb.endpoints ≡ 9 → length o.calibrated_rgb.gamma ≡ 3
+pub rest_room : (m : Mode) (s : EncodeSource) (o : EncodeOptions) → length (calibrated_in o).endpoints ≡ 9 → length (calibrated_in o).gamma ≡ 3
     → rest_len m s o ≡ length (head_rest m s o 0 0)
 unfolding head_rest v5_fields le32
 rest_room Masked s o nine three = refl
 rest_room Calibrated s o nine three =
-    sym (v4_length (long_masks s.format) 0 (longs o.calibrated_rgb.endpoints) o.calibrated_rgb.gamma (four_masks s.format) (longs-length o.calibrated_rgb.endpoints ∙ nine) three)
+    sym (v4_length (long_masks s.format) 0 (longs (calibrated_in o).endpoints) (calibrated_in o).gamma (four_masks s.format) (longs-length (calibrated_in o).endpoints ∙ nine) three)
 rest_room Profiled s o nine three =
     simp (
       length-append,

@@ -15,11 +15,12 @@ use Rattle.leaves.specs.Formats.{bits_per_pixel, is_rgb565, plain_token}
 use Rattle.leaves.specs.Masks.{count, lowest, is_one_run, has_alpha_mask, mask_compression, ShiftLen}
 use Rattle.rows.specs.declared.masks.MaskLayout.{MaskLayout}
 use Rattle.rows.specs.declared.pack.RowPack.{RowPack}
-use Rattle.format.specs.declared.layout.Coding.{Coding}
-use Rattle.format.specs.declared.layout.Coding.TheVariants.{Stream, Nothing}
+use Rattle.std.proofs.Common.{Option, Some, None, is_some}
+use Rattle.leaves.specs.Options.{bitfields_in, calibrated_in}
+use Rattle.rows.specs.declared.rle.Rle.{Rle}
 use Rattle.format.specs.declared.layout.Mode.{Mode}
 use Rattle.format.specs.declared.layout.Mode.TheVariants.{Masked, Calibrated, Profiled, Plain}
-use Rattle.format.specs.Layout.{mode_of, is_masked, is_plain, depth_of, channel_of, channels_of, plain_pack, mask_pack, pack_of, table_entries, header_size_of, head_rest, head_len, plain_compression, rows_compression, mask_format, rows_format, coding_at, is_stream, coded, wants_rle, coding_of, layout_of}
+use Rattle.format.specs.Layout.{mode_of, is_masked, is_plain, depth_of, channel_of, channels_of, plain_pack, mask_pack, pack_of, table_entries, header_size_of, head_rest, head_len, plain_compression, rows_compression, mask_format, rows_format, coding_at, coded, wants_rle, coding_of, layout_of}
 use Rattle.format.proofs.HeadTable.{mask_tail_lem, header_fills, entries_small}
 use Rattle.format.proofs.Modes.{given_mode}
 
@@ -48,60 +49,60 @@ channels_are d masks l runs e r g b a =
 -- ---- streams
 
 -- where the tests of the mode and the options hold, the depth decides
-pub coding_tested : (a c d : Bool) (x : Coding) → a ≡ true → c ≡ true → d ≡ false → x ≡ cond (a && is_stream x && c && not d) x Nothing
-coding_tested true true false (Stream rle) p q r = refl
-coding_tested true true false Nothing p q r = refl
+pub coding_tested : (a c d : Bool) (x : Option Rle) → a ≡ true → c ≡ true → d ≡ false → x ≡ cond (a && is_some x && c && not d) x None
+coding_tested true true false (Some rle) p q r = refl
+coding_tested true true false None p q r = refl
 coding_tested true true true x p q r = absurd (false≢true (sym r))
 coding_tested true false d x p q r = absurd (false≢true q)
 coding_tested false c d x p q r = absurd (false≢true p)
 
 -- where one does not, none is tried
-pub coding_untested : (a b c d : Bool) (x : Coding) → (a && b && c && not d) ≡ false → Nothing ≡ cond (a && b && c && not d) x Nothing
+pub coding_untested : (a b c d : Bool) (x : Option Rle) → (a && b && c && not d) ≡ false → None ≡ cond (a && b && c && not d) x None
 coding_untested a b c d x e = rw e
 
 -- a stream is tried exactly where RLE is planned
-pub coding_planned : (s : EncodeSource) (o : EncodeOptions) → is_stream (coding_of s o) ≡ wants_rle s o
+pub coding_planned : (s : EncodeSource) (o : EncodeOptions) → is_some (coding_of s o) ≡ wants_rle s o
 unfolding coding_of wants_rle
 coding_planned s o = go (is_plain (mode_of s o)) o.rle o.top_down (coding_at (bits_per_pixel s.format))
   where
-    go : (a c d : Bool) (x : Coding) → is_stream (cond (a && is_stream x && c && not d) x Nothing) ≡ (a && is_stream x && c && not d)
+    go : (a c d : Bool) (x : Option Rle) → is_some (cond (a && is_some x && c && not d) x None) ≡ (a && is_some x && c && not d)
     go false c d x = refl
-    go true false d (Stream rle) = refl
-    go true false d Nothing = refl
-    go true true false (Stream rle) = refl
-    go true true false Nothing = refl
-    go true true true (Stream rle) = refl
-    go true true true Nothing = refl
+    go true false d (Some rle) = refl
+    go true false d None = refl
+    go true true false (Some rle) = refl
+    go true true false None = refl
+    go true true true (Some rle) = refl
+    go true true true None = refl
 
 -- ---- the layout
 
 -- by whether masks are given
-pub layout_is : (s : EncodeSource) (o : EncodeOptions) (n : ℕ) (m : Mode) (b : Bool) (size depth entries compression : ℕ) (coding : Coding) (pack : RowPack) (format : EncodedBmpFormat)
+pub layout_is : (s : EncodeSource) (o : EncodeOptions) (n : ℕ) (m : Mode) (b : Bool) (size depth entries compression : ℕ) (coding : Option Rle) (pack : RowPack) (format : EncodedBmpFormat)
     → m ≡ mode_of s o → is_masked m ≡ b → size ≡ header_size_of m s.format → entries ≡ table_entries s.format n o.minimal_palette
-    → coding ≡ cond (is_plain m && coded s.format && o.rle && not o.top_down) (coding_at (bits_per_pixel s.format)) Nothing
-    → depth ≡ cond b o.bitfields.bpp (bits_per_pixel s.format) → pack ≡ cond b (mask_pack s.format o.bitfields.bpp o.bitfields.masks) (plain_pack s.format)
-    → compression ≡ cond b (mask_compression o.bitfields.masks) (plain_compression s.format) → format ≡ cond b (mask_format o.bitfields.masks) (plain_token s.format)
+    → coding ≡ cond (is_plain m && coded s.format && o.rle && not o.top_down) (coding_at (bits_per_pixel s.format)) None
+    → depth ≡ cond b (bitfields_in o).bpp (bits_per_pixel s.format) → pack ≡ cond b (mask_pack s.format (bitfields_in o).bpp (bitfields_in o).masks) (plain_pack s.format)
+    → compression ≡ cond b (mask_compression (bitfields_in o).masks) (plain_compression s.format) → format ≡ cond b (mask_format (bitfields_in o).masks) (plain_token s.format)
     → record { mode = m; header_size = size; bit_count = depth; entries = entries; coding = coding; pack = pack; compression = compression; format = format } ≡ layout_of s o n
 unfolding layout_of depth_of pack_of rows_compression rows_format coding_of wants_rle
 layout_is s o n m b size depth entries compression coding pack format em eb es en ec ed ep ek ef =
     let f = s.format in
-    let given : b ≡ o.has_bitfields = sym eb ∙ ap is_masked em ∙ sym (given_mode s o) in
+    let given : b ≡ is_some o.bitfields = sym eb ∙ ap is_masked em ∙ sym (given_mode s o) in
     λ z. record {
       mode = em z;
       header_size = (es ∙ ap (λ (x : Mode). header_size_of x f) em) z;
-      bit_count = (ed ∙ ap (λ (x : Bool). cond x o.bitfields.bpp (bits_per_pixel f)) given) z;
+      bit_count = (ed ∙ ap (λ (x : Bool). cond x (bitfields_in o).bpp (bits_per_pixel f)) given) z;
       entries = en z;
-      coding = (ec ∙ ap (λ (x : Mode). cond (is_plain x && coded f && o.rle && not o.top_down) (coding_at (bits_per_pixel f)) Nothing) em) z;
-      pack = (ep ∙ ap (λ (x : Bool). cond x (mask_pack f o.bitfields.bpp o.bitfields.masks) (plain_pack f)) given) z;
-      compression = (ek ∙ ap (λ (x : Bool). cond x (mask_compression o.bitfields.masks) (plain_compression f)) given) z;
-      format = (ef ∙ ap (λ (x : Bool). cond x (mask_format o.bitfields.masks) (plain_token f)) given) z;
+      coding = (ec ∙ ap (λ (x : Mode). cond (is_plain x && coded f && o.rle && not o.top_down) (coding_at (bits_per_pixel f)) None) em) z;
+      pack = (ep ∙ ap (λ (x : Bool). cond x (mask_pack f (bitfields_in o).bpp (bitfields_in o).masks) (plain_pack f)) given) z;
+      compression = (ek ∙ ap (λ (x : Bool). cond x (mask_compression (bitfields_in o).masks) (plain_compression f)) given) z;
+      format = (ef ∙ ap (λ (x : Bool). cond x (mask_format (bitfields_in o).masks) (plain_token f)) given) z;
     }
 
 -- ---- the head's length
 
 -- header, masks and table make the head
-pub head_is : (s : EncodeSource) (o : EncodeOptions) (n masks : ℕ) → length o.calibrated_rgb.endpoints ≡ 9 → length o.calibrated_rgb.gamma ≡ 3
-    → masks ≡ cond (is_masked (mode_of s o)) (cond (has_alpha_mask o.bitfields.masks) 16 12) 0
+pub head_is : (s : EncodeSource) (o : EncodeOptions) (n masks : ℕ) → length (calibrated_in o).endpoints ≡ 9 → length (calibrated_in o).gamma ≡ 3
+    → masks ≡ cond (is_masked (mode_of s o)) (cond (has_alpha_mask (bitfields_in o).masks) 16 12) 0
     → (14 + header_size_of (mode_of s o) s.format + masks + 4 * table_entries s.format n o.minimal_palette ≡ head_len s o n) × (head_len s o n ≤ 1162)
 unfolding head_len head_rest
 head_is s o n masks nine three e = go (mode_of s o) e
@@ -129,11 +130,11 @@ head_is s o n masks nine three e = go (mode_of s o) e
         let fills = header_fills s o nine three m q in
         (omega (arith, fills, z), omega (arith, fills, small m, entries_small s.format n o.minimal_palette))
 
-    go : (m : Mode) → masks ≡ cond (is_masked m) (cond (has_alpha_mask o.bitfields.masks) 16 12) 0
+    go : (m : Mode) → masks ≡ cond (is_masked m) (cond (has_alpha_mask (bitfields_in o).masks) 16 12) 0
         → (14 + header_size_of m s.format + masks + 4 * entries ≡ 14 + 40 + length (head_rest m s o 0 0) + 4 * entries) × (14 + 40 + length (head_rest m s o 0 0) + 4 * entries ≤ 1162)
     go Masked q =
-        let long = mask_tail_lem o.bitfields.masks (has_alpha_mask o.bitfields.masks) refl in
-        (omega (arith, long, q), omega (arith, long, short (has_alpha_mask o.bitfields.masks), entries_small s.format n o.minimal_palette))
+        let long = mask_tail_lem (bitfields_in o).masks (has_alpha_mask (bitfields_in o).masks) refl in
+        (omega (arith, long, q), omega (arith, long, short (has_alpha_mask (bitfields_in o).masks), entries_small s.format n o.minimal_palette))
     go Calibrated q = other Calibrated refl q
     go Profiled q = other Profiled refl q
     go Plain q = other Plain refl q

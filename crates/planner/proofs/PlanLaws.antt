@@ -8,28 +8,25 @@ use native.Mathlib.Omega.{arith}
 use borrow.Author.Tests.{leb-true, leb-false, le-leb, lt-leb, lt-ltb, le-ltb}
 use lib.Dec.{leb, ltb}
 use lib.ListN.{length}
+use Rattle.std.proofs.Common.{Ok, Err, is_some}
 use Rattle.leaves.specs.declared.encoder.EncodeSource.{EncodeSource}
 use Rattle.leaves.specs.declared.options.EncodeOptions.{EncodeOptions}
-use Rattle.leaves.specs.declared.error.Check.{Check}
-use Rattle.leaves.specs.declared.error.Check.TheVariants as check
 use Rattle.leaves.specs.declared.error.Refusal.{Refusal}
 use Rattle.leaves.specs.declared.error.Refusal.TheVariants.{FileTooLarge}
-use Rattle.leaves.specs.Refusals.{check_number, first_of}
+use Rattle.leaves.specs.Refusals.{check_number, first_of, Check}
 use Rattle.leaves.specs.Sizes.{row_stride}
 use Rattle.leaves.proofs.FirstOf.{first_pass, first_stop, check_determined}
 use Rattle.format.specs.declared.layout.Layout.{Layout}
 use Rattle.format.specs.File.{tail_of, rle_planned, limit_in, plain_size_of, budget, bound_of}
 use Rattle.format.specs.Input.{Input}
-use Rattle.format.specs.Layout.{is_stream, depth_of, raw_len, head_len, wants_rle, layout_of}
+use Rattle.format.specs.Layout.{depth_of, raw_len, head_len, wants_rle, layout_of}
 use Rattle.format.specs.Refusals.{file_too_large, check_rows, plan_rows}
 use Rattle.format.proofs.Acceptance.{ChecksPassed}
 use Rattle.format.proofs.HeadFields.{depth_le}
 use Rattle.format.proofs.Modes.{planned_in, no_tail}
 use Rattle.planner.specs.declared.plan.Plan.{Plan}
-use Rattle.planner.specs.declared.plan.Plan.TheVariants as plan
-use Rattle.planner.specs.declared.plan.SizeBound.TheVariants as sized
 use Rattle.planner.specs.declared.plan.Sizes.{Sizes}
-use Rattle.planner.specs.Answers.{Sized, bound_for, plan_number, plan_bound, plan_layout, plan_sizes}
+use Rattle.planner.specs.Answers.{PlanAnswer, Sized, bound_for, plan_number, plan_bound, plan_layout, plan_sizes}
 use Rattle.planner.specs.Plans.{sizes_by, plan_by, sizes_plan, length_rows, passing, or_zero, PlannedBy, layout_in, sizes_of, Planned}
 use Rattle.planner.proofs.LayoutLaws.{coding_planned}
 
@@ -44,27 +41,27 @@ fits_below body tail limit h = go (leb tail (limit - body)) refl
     go false q = sym (lt-leb (body + tail) limit (omega (arith, leb-false tail (limit - body) q)))
 
 -- the plan of a stream, which has no profile
-pub stream_plan : (limit head raw tail width room bound : ℕ) (l : Layout) (fits : Bool) → is_stream l.coding ≡ true → tail ≡ 0 → fits ≡ leb (head + raw + tail) limit
+pub stream_plan : (limit head raw tail width room bound : ℕ) (l : Layout) (fits : Bool) → is_some l.coding ≡ true → tail ≡ 0 → fits ≡ leb (head + raw + tail) limit
     → room ≡ min raw (limit + 1 - head) → bound ≡ head + max (room + 2 * width + 2) (cond fits raw 0)
-    → plan.Ready l (record { head = head; raw = raw; file = head + raw; file_fits = fits; rle_budget = room; bound = bound }) ≡ sizes_plan limit l head raw tail width
+    → Ok (record { layout = l; sizes = record { head = head; raw = raw; file = head + raw; file_fits = fits; rle_budget = room; bound = bound } }) ≡ sizes_plan limit l head raw tail width
 unfolding sizes_plan sizes_by
 stream_plan limit head raw tail width room bound l fits e t f b p =
     let whole : head + raw ≡ head + raw + tail = omega (arith, t) in
     rw e
-    (λ z. plan.Ready l (record { head = head; raw = raw; file = whole z; file_fits = f z; rle_budget = b z; bound = (p ∙ λ y. head + max (b y + 2 * width + 2) (cond (f y) raw 0)) z }))
+    (λ z. Ok (record { layout = l; sizes = record { head = head; raw = raw; file = whole z; file_fits = f z; rle_budget = b z; bound = (p ∙ λ y. head + max (b y + 2 * width + 2) (cond (f y) raw 0)) z } }))
 
 -- of stored rows that fit
-pub rows_plan : (limit head raw tail width room : ℕ) (l : Layout) (fits : Bool) → is_stream l.coding ≡ false → fits ≡ leb (head + raw + tail) limit → fits ≡ true
+pub rows_plan : (limit head raw tail width room : ℕ) (l : Layout) (fits : Bool) → is_some l.coding ≡ false → fits ≡ leb (head + raw + tail) limit → fits ≡ true
     → room ≡ min raw (limit + 1 - head)
-    → plan.Ready l (record { head = head; raw = raw; file = head + raw + tail; file_fits = fits; rle_budget = room; bound = head + raw + tail }) ≡ sizes_plan limit l head raw tail width
+    → Ok (record { layout = l; sizes = record { head = head; raw = raw; file = head + raw + tail; file_fits = fits; rle_budget = room; bound = head + raw + tail } }) ≡ sizes_plan limit l head raw tail width
 unfolding sizes_plan sizes_by
 rows_plan limit head raw tail width room l fits e f t b =
     rw (e, le-ltb limit (head + raw + tail) (leb-true (head + raw + tail) limit (sym f ∙ t)))
-    (λ z. plan.Ready l (record { head = head; raw = raw; file = head + raw + tail; file_fits = f z; rle_budget = b z; bound = head + raw + tail }))
+    (λ z. Ok (record { layout = l; sizes = record { head = head; raw = raw; file = head + raw + tail; file_fits = f z; rle_budget = b z; bound = head + raw + tail } }))
 
 -- and of those that do not
-pub no_plan : (limit head raw tail width : ℕ) (l : Layout) (fits : Bool) → is_stream l.coding ≡ false → fits ≡ leb (head + raw + tail) limit → fits ≡ false
-    → plan.Refused FileTooLarge ≡ sizes_plan limit l head raw tail width
+pub no_plan : (limit head raw tail width : ℕ) (l : Layout) (fits : Bool) → is_some l.coding ≡ false → fits ≡ leb (head + raw + tail) limit → fits ≡ false
+    → Err FileTooLarge ≡ sizes_plan limit l head raw tail width
 unfolding sizes_plan sizes_by
 no_plan limit head raw tail width l fits e f t = rw (e, lt-ltb limit (head + raw + tail) (leb-false (head + raw + tail) limit (sym f ∙ t)))
 
@@ -95,54 +92,54 @@ unfolding raw_len layout_of
 raw_is s o n stride l e f = ap (λ (z : ℕ). z * s.height) (f ∙ ap (λ (z : Layout). row_stride s.width z.bit_count) e)
 
 -- a layout tries a stream where RLE is planned
-pub stream_planned : (s : EncodeSource) (o : EncodeOptions) (n : ℕ) (l : Layout) → l ≡ layout_of s o n → is_stream l.coding ≡ wants_rle s o
+pub stream_planned : (s : EncodeSource) (o : EncodeOptions) (n : ℕ) (l : Layout) → l ≡ layout_of s o n → is_some l.coding ≡ wants_rle s o
 unfolding layout_of
-stream_planned s o n l e = ap (λ (z : Layout). is_stream z.coding) e ∙ coding_planned s o
+stream_planned s o n l e = ap (λ (z : Layout). is_some z.coding) e ∙ coding_planned s o
 
 -- ---- number, layout and sizes determine a plan
 
 -- layout and sizes, or the cause
-unfoldable plan_of : EncodeSource → EncodeOptions → ℕ → ℕ → ℕ → Plan
+unfoldable plan_of : EncodeSource → EncodeOptions → ℕ → ℕ → ℕ → PlanAnswer
 plan_of s o plane_bytes palette_bytes profile_bytes_of =
     plan_by (first_of (length_rows o.limit s o plane_bytes palette_bytes profile_bytes_of)) (layout_of s o palette_bytes) (sizes_by o.limit (head_len s o palette_bytes) (raw_len s o) profile_bytes_of (wants_rle s o) s.width)
 
-plan_check : Plan → Check
-plan_check (plan.Ready l s) = check.Passed
-plan_check (plan.Refused why) = check.Refused why
+plan_check : PlanAnswer → Check
+plan_check (Ok p) = Ok tt
+plan_check (Err why) = Err why
 
-plan_number_lem : (p : Plan) → plan_number p ≡ check_number (plan_check p)
+plan_number_lem : (p : PlanAnswer) → plan_number p ≡ check_number (plan_check p)
 unfolding plan_check
-plan_number_lem (plan.Ready l s) = refl
-plan_number_lem (plan.Refused why) = refl
+plan_number_lem (Ok p) = refl
+plan_number_lem (Err why) = refl
 
 -- the plan of a check, layouts and sizes
-rebuilt : Check → List Layout → List Sizes → Plan → Plan
-rebuilt check.Passed [] sizes p = p
-rebuilt check.Passed (l ∷ ls) [] p = p
-rebuilt check.Passed (l ∷ ls) (s ∷ ss) p = plan.Ready l s
-rebuilt (check.Refused why) layouts sizes p = plan.Refused why
+rebuilt : Check → List Layout → List Sizes → PlanAnswer → PlanAnswer
+rebuilt (Ok passed) [] sizes p = p
+rebuilt (Ok passed) (l ∷ ls) [] p = p
+rebuilt (Ok passed) (l ∷ ls) (s ∷ ss) p = Ok (record { layout = l; sizes = s })
+rebuilt (Err why) layouts sizes p = Err why
 
-rebuilds : (p q : Plan) → rebuilt (plan_check p) (plan_layout p) (plan_sizes p) q ≡ p
+rebuilds : (p q : PlanAnswer) → rebuilt (plan_check p) (plan_layout p) (plan_sizes p) q ≡ p
 unfolding rebuilt plan_check
-rebuilds (plan.Ready l s) q = refl
-rebuilds (plan.Refused why) q = refl
+rebuilds (Ok p) q = refl
+rebuilds (Err why) q = refl
 
 -- equal in all three, two plans are one
-pub plan_determined : (p q : Plan) → plan_number p ≡ plan_number q → plan_layout p ≡ plan_layout q → plan_sizes p ≡ plan_sizes q → p ≡ q
+pub plan_determined : (p q : PlanAnswer) → plan_number p ≡ plan_number q → plan_layout p ≡ plan_layout q → plan_sizes p ≡ plan_sizes q → p ≡ q
 plan_determined p q number layout sizes =
     let same = check_determined (plan_check p) (plan_check q) (sym (plan_number_lem p) ∙ number ∙ plan_number_lem q) in
     sym (rebuilds p p) ∙ (λ z. rebuilt (same z) (layout z) (sizes z) p) ∙ rebuilds q p
 
 -- what the plan of a check says
-record Says (c : Check) (l : Layout) (s : Sizes) (p : Plan) : Type 0 where
+record Says (c : Check) (l : Layout) (s : Sizes) (p : PlanAnswer) : Type 0 where
   number : plan_number p ≡ check_number c
   bound : plan_bound p ≡ or_zero c s.bound
   layout : plan_layout p ≡ passing c l
   sizes : plan_sizes p ≡ passing c s
 
 says : (c : Check) (l : Layout) (s : Sizes) → Says c l s (plan_by c l s)
-says check.Passed l s = record { number = refl; bound = refl; layout = refl; sizes = refl }
-says (check.Refused why) l s = record { number = refl; bound = refl; layout = refl; sizes = refl }
+says (Ok passed) l s = record { number = refl; bound = refl; layout = refl; sizes = refl }
+says (Err why) l s = record { number = refl; bound = refl; layout = refl; sizes = refl }
 
 module _ (s : EncodeSource) (o : EncodeOptions) (a b t : ℕ) where
   rows : List (Bool × Refusal)
@@ -152,13 +149,13 @@ module _ (s : EncodeSource) (o : EncodeOptions) (a b t : ℕ) where
   sizes = sizes_by o.limit (head_len s o b) (raw_len s o) t (wants_rle s o) s.width
 
   -- the promise of the plan is an equation
-  planned_as : (p : Plan) → p ≡ plan_of s o a b t → PlannedBy s o a b t p
+  planned_as : (p : PlanAnswer) → p ≡ plan_of s o a b t → PlannedBy s o a b t p
   unfolding plan_of rows sizes
   planned_as p e =
       let k = says (first_of rows) (layout_of s o b) sizes in
       record { number = ap plan_number e ∙ k.number; bound = ap plan_bound e ∙ k.bound; layout = ap plan_layout e ∙ k.layout; sizes = ap plan_sizes e ∙ k.sizes }
 
-  planned_is : (p : Plan) → PlannedBy s o a b t p → p ≡ plan_of s o a b t
+  planned_is : (p : PlanAnswer) → PlannedBy s o a b t p → p ≡ plan_of s o a b t
   unfolding plan_of rows sizes
   planned_is p h =
       let k = says (first_of rows) (layout_of s o b) sizes in
@@ -167,15 +164,15 @@ module _ (s : EncodeSource) (o : EncodeOptions) (a b t : ℕ) where
 -- ---- the plan by the checks
 
 -- a call that is refused has a refused plan
-pub plan_stops : (s : EncodeSource) (o : EncodeOptions) (a b t : ℕ) (c : Check) (why : Refusal) → c ≡ first_of (check_rows s o a b) → c ≡ check.Refused why
-    → PlannedBy s o a b t (plan.Refused why)
+pub plan_stops : (s : EncodeSource) (o : EncodeOptions) (a b t : ℕ) (why : Refusal) (r : PlanAnswer) → Err why ≡ first_of (check_rows s o a b) → r ≡ Err why
+    → PlannedBy s o a b t r
 unfolding plan_of length_rows
-plan_stops s o a b t c why e q =
-    planned_as s o a b t (plan.Refused why)
-    (sym (ap (λ (k : Check). plan_by k (layout_of s o b) (sizes_by o.limit (head_len s o b) (raw_len s o) t (wants_rle s o) s.width)) (first_stop (check_rows s o a b) _ why (sym e ∙ q))))
+plan_stops s o a b t why r e q =
+    planned_as s o a b t r
+    (q ∙ sym (ap (λ (k : Check). plan_by k (layout_of s o b) (sizes_by o.limit (head_len s o b) (raw_len s o) t (wants_rle s o) s.width)) (first_stop (check_rows s o a b) _ why (sym e))))
 
 -- of one that passes, 14 decides
-pub plan_sizes_lem : (s : EncodeSource) (o : EncodeOptions) (a b t head raw : ℕ) (l : Layout) (r : Plan) → first_of (check_rows s o a b) ≡ check.Passed
+pub plan_sizes_lem : (s : EncodeSource) (o : EncodeOptions) (a b t head raw : ℕ) (l : Layout) (r : PlanAnswer) → first_of (check_rows s o a b) ≡ Ok tt
     → l ≡ layout_of s o b → head ≡ head_len s o b → raw ≡ raw_len s o → r ≡ sizes_plan o.limit l head raw t s.width → PlannedBy s o a b t r
 unfolding plan_of length_rows sizes_plan
 plan_sizes_lem s o a b t head raw l r passed el eh er e =
@@ -187,60 +184,56 @@ plan_sizes_lem s o a b t head raw l r passed el eh er e =
 
 -- ---- what a plan says
 
-is_ready : Plan → Bool
-is_ready (plan.Ready l s) = true
-is_ready (plan.Refused why) = false
+is_ready : PlanAnswer → Bool
+is_ready (Ok p) = true
+is_ready (Err why) = false
 
-layout_of_plan : Plan → Layout → Layout
-layout_of_plan (plan.Ready l s) other = l
-layout_of_plan (plan.Refused why) other = other
+plan_in : PlanAnswer → Plan → Plan
+plan_in (Ok p) other = p
+plan_in (Err why) other = other
 
-sizes_of_plan : Plan → Sizes → Sizes
-sizes_of_plan (plan.Ready l s) other = s
-sizes_of_plan (plan.Refused why) other = other
-
-refusal_in : Plan → Refusal → Refusal
-refusal_in (plan.Ready l s) other = other
-refusal_in (plan.Refused why) other = why
+refusal_in : PlanAnswer → Refusal → Refusal
+refusal_in (Ok p) other = other
+refusal_in (Err why) other = why
 
 -- the plan of a call, by the table
 call_plan : (i : Input) → plan_of i.source i.options (length i.plane) (length i.palette) (length (tail_of i)) ≡ plan_by (first_of (plan_rows (limit_in i) i)) (layout_in i) (sizes_of i)
 unfolding plan_of length_rows plan_rows file_too_large plain_size_of
 call_plan i = refl
 
-module _ (i : Input) (p : Plan) (tail : ℕ) (et : tail ≡ length (tail_of i)) (e : PlannedBy i.source i.options (length i.plane) (length i.palette) tail p) where
+module _ (i : Input) (p : PlanAnswer) (tail : ℕ) (et : tail ≡ length (tail_of i)) (e : PlannedBy i.source i.options (length i.plane) (length i.palette) tail p) where
   by_table : p ≡ plan_by (first_of (plan_rows (limit_in i) i)) (layout_in i) (sizes_of i)
   by_table = planned_is i.source i.options (length i.plane) (length i.palette) tail p e ∙ ap (plan_of i.source i.options (length i.plane) (length i.palette)) et ∙ call_plan i
 
   -- of a ready plan: the rows 1 to 14 pass, and layout and sizes are the call's
-  pub plan_ready : (l : Layout) (s : Sizes) → p ≡ plan.Ready l s → Planned i l s
-  unfolding is_ready layout_of_plan sizes_of_plan
-  plan_ready l s q = go (first_of (plan_rows (limit_in i) i)) refl (sym by_table ∙ q)
+  pub plan_ready : (s : Plan) → p ≡ Ok s → Planned i s.layout s.sizes
+  unfolding is_ready plan_in
+  plan_ready s q = go (first_of (plan_rows (limit_in i) i)) refl (sym by_table ∙ q)
     where
-      go : (c : Check) → first_of (plan_rows (limit_in i) i) ≡ c → plan_by c (layout_in i) (sizes_of i) ≡ plan.Ready l s → Planned i l s
-      go check.Passed r f = record { passed = r; layout_is = sym (ap (λ (x : Plan). layout_of_plan x l) f); sizes_are = sym (ap (λ (x : Plan). sizes_of_plan x s) f) }
-      go (check.Refused why) r f = absurd (false≢true (ap is_ready f))
+      go : (c : Check) → first_of (plan_rows (limit_in i) i) ≡ c → plan_by c (layout_in i) (sizes_of i) ≡ Ok s → Planned i s.layout s.sizes
+      go (Ok passed) r f = record { passed = r; layout_is = sym (ap (λ (x : PlanAnswer). (plan_in x s).layout) f); sizes_are = sym (ap (λ (x : PlanAnswer). (plan_in x s).sizes) f) }
+      go (Err why) r f = absurd (false≢true (ap is_ready f))
 
   -- of a refused one: the first of them refuses so
-  pub plan_refused : (why : Refusal) → p ≡ plan.Refused why → first_of (plan_rows (limit_in i) i) ≡ check.Refused why
+  pub plan_refused : (why : Refusal) → p ≡ Err why → first_of (plan_rows (limit_in i) i) ≡ Err why
   unfolding is_ready refusal_in
   plan_refused why q = go (first_of (plan_rows (limit_in i) i)) refl (sym by_table ∙ q)
     where
-      go : (c : Check) → first_of (plan_rows (limit_in i) i) ≡ c → plan_by c (layout_in i) (sizes_of i) ≡ plan.Refused why → first_of (plan_rows (limit_in i) i) ≡ check.Refused why
-      go check.Passed r f = absurd (false≢true (sym (ap is_ready f)))
-      go (check.Refused other) r f = r ∙ ap check.Refused (ap (λ (x : Plan). refusal_in x why) f)
+      go : (c : Check) → first_of (plan_rows (limit_in i) i) ≡ c → plan_by c (layout_in i) (sizes_of i) ≡ Err why → first_of (plan_rows (limit_in i) i) ≡ Err why
+      go (Ok passed) r f = absurd (false≢true (sym (ap is_ready f)))
+      go (Err other) r f = r ∙ ap Err (ap (λ (x : PlanAnswer). refusal_in x why) f)
 
   -- ---- the size query
 
-  pub sized_ready : (l : Layout) (s : Sizes) → p ≡ plan.Ready l s → Sized i (sized.Bytes s.bound)
-  sized_ready l s q =
-      let k = plan_ready l s q in
+  pub sized_ready : (s : Plan) → p ≡ Ok s → Sized i (Ok s.sizes.bound)
+  sized_ready s q =
+      let k = plan_ready s q in
       record {
         number = sym (ap check_number k.passed);
-        bytes = plan_bound_lem i s k.sizes_are ∙ sym (ap (λ (c : Check). bound_for c i) k.passed);
+        bytes = plan_bound_lem i s.sizes k.sizes_are ∙ sym (ap (λ (c : Check). bound_for c i) k.passed);
       }
 
-  pub sized_refused : (why : Refusal) → p ≡ plan.Refused why → Sized i (sized.Refused why)
+  pub sized_refused : (why : Refusal) → p ≡ Err why → Sized i (Err why)
   sized_refused why q =
       let first = plan_refused why q in
       record { number = sym (ap check_number first); bytes = sym (ap (λ (c : Check). bound_for c i) first) }

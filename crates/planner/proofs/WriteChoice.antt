@@ -10,21 +10,18 @@ use lib.ListN.{length}
 use Rattle.leaves.specs.declared.error.Refusal.TheVariants.{StreamOverBudget}
 use Rattle.leaves.specs.Refusals.{first_of}
 use Rattle.rows.specs.declared.rle.Rle.{Rle}
-use Rattle.rows.specs.declared.counting.StreamCount.{StreamCount}
-use Rattle.rows.specs.declared.counting.StreamCount.TheVariants.{Under, OverBudget}
 use Rattle.rows.specs.RleCodes.{is_rle4, depth_of}
 use Rattle.rows.specs.Stream.{stream, is_under, counted_bytes, Counted}
-use Rattle.format.specs.declared.layout.Coding.TheVariants.{Stream, Nothing}
+use Rattle.std.specs.Prelude.{Option, Some, None, is_some}
 use Rattle.format.specs.declared.layout.Layout.{Layout}
 use Rattle.format.specs.File.{rle_planned, raw_bytes, head_bytes_of, stream_of, max_file, limit_in, budget, stream_used, plain_size_of}
 use Rattle.format.specs.Input.{Input}
-use Rattle.format.specs.Layout.{is_stream, layout_of}
+use Rattle.format.specs.Layout.{layout_of}
 use Rattle.format.specs.Refusals.{file_too_large, stream_over_budget}
 use Rattle.format.proofs.Acceptance.{plan_passed}
 use Rattle.format.proofs.Modes.{planned_in, no_tail}
-use Rattle.planner.specs.declared.encoder.Encoded.{Encoded}
 use Rattle.planner.specs.declared.plan.Sizes.{Sizes}
-use Rattle.planner.specs.Answers.{later_for}
+use Rattle.planner.specs.Answers.{EncodeAnswer, later_for}
 use Rattle.planner.specs.Plans.{sizes_by, Planned, Streamed, encoded_for, stream_check, noted_for}
 use Rattle.planner.proofs.FileWrites.{sizes_head, sizes_raw, sizes_file, sizes_parts, stream_planned, stream-coded}
 use Rattle.planner.proofs.LayoutLaws.{coding_planned}
@@ -36,13 +33,13 @@ budget_fits i l s p = omega (arith, ap (λ (t : Sizes). t.rle_budget) p.sizes_ar
 
 -- ---- what a count says
 
-module _ (n limit : ℕ) (count : StreamCount) (k : Counted n limit count) where
-  under_is : (len : ℕ) → count ≡ Under len → (ltb n limit ≡ true) × (len ≡ n)
+module _ (n limit : ℕ) (count : Option ℕ) (k : Counted n limit count) where
+  under_is : (len : ℕ) → count ≡ Some len → (ltb n limit ≡ true) × (len ≡ n)
   under_is len e =
       let q : ltb n limit ≡ true = sym k.under ∙ ap is_under e in
       (q, sym (ap counted_bytes e) ∙ k.bytes ∙ ap (λ (b : Bool). cond b n 0) q)
 
-  over_is : count ≡ OverBudget → ltb n limit ≡ false
+  over_is : count ≡ None → ltb n limit ≡ false
   over_is e = sym k.under ∙ ap is_under e
 
 -- ---- stream or rows
@@ -67,16 +64,16 @@ module _ (i : Input) (l : Layout) (s : Sizes) (p : Planned i l s) where
   fits_is = ap (λ (t : Sizes). t.file_fits) p.sizes_are
 
   -- without a planned stream the rows fit
-  pub rows_alone : l.coding ≡ Nothing → RowsFit i s
+  pub rows_alone : l.coding ≡ None → RowsFit i s
   unfolding stream_used stream_over_budget file_too_large layout_of
   rows_alone none =
-      let q : rle_planned i ≡ false = sym (coding_planned i.source i.options) ∙ sym (ap (λ (x : Layout). is_stream x.coding) p.layout_is) ∙ ap is_stream none in
+      let q : rle_planned i ≡ false = sym (coding_planned i.source i.options) ∙ sym (ap (λ (x : Layout). is_some x.coding) p.layout_is) ∙ ap is_some none in
       let small : plain_size_of i ≤ limit_in i = ltb-false (limit_in i) (plain_size_of i) (sym (ap (λ (b : Bool). not b && ltb (limit_in i) (plain_size_of i)) q) ∙ (plan_passed i p.passed).1) in
       let file = sizes_file i s p.sizes_are in
       record { unused = rw q; over = rw q; fits = omega (arith, file, small, (plan_passed i p.passed).0.limited); room = omega (arith, file, bound_is false q) }
 
   -- by the count of a planned stream
-  module _ (rle : Rle) (count : StreamCount) (ec : l.coding ≡ Stream rle)
+  module _ (rle : Rle) (count : Option ℕ) (ec : l.coding ≡ Some rle)
       (en : Counted (length (stream (depth_of (is_rle4 rle)) i.source.width i.source.height i.plane i.source.stride)) s.rle_budget count) where
     is_planned : rle_planned i ≡ true
     is_planned = stream_planned i l rle p.layout_is ec
@@ -88,7 +85,7 @@ module _ (i : Input) (l : Layout) (s : Sizes) (p : Planned i l s) where
         (subst (λ (x : List ℕ). Counted (length x) s.rle_budget count) (stream-coded i l rle p.layout_is ec) en)
 
     -- under the budget the stream is written, and there is room for it
-    pub stream_under : (len : ℕ) → count ≡ Under len → Streamed i l s rle len × ((stream_over_budget (limit_in i) i ≡ false) × (s.head + len ≤ s.bound))
+    pub stream_under : (len : ℕ) → count ≡ Some len → Streamed i l s rle len × ((stream_over_budget (limit_in i) i ≡ false) × (s.head + len ≤ s.bound))
     unfolding stream_used stream_over_budget
     stream_under len u =
         let n = length (stream_of i) in
@@ -107,7 +104,7 @@ module _ (i : Input) (l : Layout) (s : Sizes) (p : Planned i l s) where
         and_none false = refl
 
     -- over it the rows are, if they fit
-    pub rows_instead : count ≡ OverBudget → s.file_fits ≡ true → RowsFit i s
+    pub rows_instead : count ≡ None → s.file_fits ≡ true → RowsFit i s
     unfolding stream_used stream_over_budget
     rows_instead o f =
         let q = over_is (length (stream_of i)) (budget (limit_in i) i) count count_is o in
@@ -124,7 +121,7 @@ module _ (i : Input) (l : Layout) (s : Sizes) (p : Planned i l s) where
         }
 
     -- and else it is 16
-    pub stream_over : count ≡ OverBudget → s.file_fits ≡ false → stream_over_budget (limit_in i) i ≡ true
+    pub stream_over : count ≡ None → s.file_fits ≡ false → stream_over_budget (limit_in i) i ≡ true
     unfolding stream_over_budget
     stream_over o f =
         let q = over_is (length (stream_of i)) (budget (limit_in i) i) count count_is o in
@@ -132,7 +129,7 @@ module _ (i : Input) (l : Layout) (s : Sizes) (p : Planned i l s) where
 
 -- answer, buffer and list by that test
 module _ (i : Input) (b : Bool) (e : stream_over_budget (limit_in i) i ≡ b) where
-  pub answer_by : (r : Encoded) → r ≡ encoded_for (first_of ((b, StreamOverBudget) ∷ [])) i → r ≡ encoded_for (stream_check i) i
+  pub answer_by : (r : EncodeAnswer) → r ≡ encoded_for (first_of ((b, StreamOverBudget) ∷ [])) i → r ≡ encoded_for (stream_check i) i
   answer_by r q = q ∙ sym (ap (λ (t : Bool). encoded_for (first_of ((t, StreamOverBudget) ∷ [])) i) e)
 
   pub later_by : (at : ℕ) (d x : List ℕ) → x ≡ later_for (first_of ((b, StreamOverBudget) ∷ [])) i at d → x ≡ later_for (stream_check i) i at d

@@ -1,17 +1,16 @@
 -- What the planner's own functions answer. Their contracts cite these; the promises of the two calls (Answers) do not.
-use Rattle.std.specs.Prelude.{ℕ, ◌+◌, ◌-◌, ◌*◌, ◌≤◌, min, max, ◌≡◌, Bool, true, not, cond, ◌&&◌, List, [], ◌∷◌, ◌++◌, ltb, leb, length}
+use Rattle.std.specs.Prelude.{ℕ, ◌+◌, ◌-◌, ◌*◌, ◌≤◌, min, max, ◌≡◌, Bool, true, not, cond, ◌&&◌, List, [], ◌∷◌, ◌++◌, ltb, leb, length, Ok, Err, Some, is_some}
 use Rattle.std.specs.Int.{w32}
 use Rattle.std.proofs.Common.{of_z}
 use Rattle.leaves.specs.declared.encoder.EncodeSource.{EncodeSource}
-use Rattle.leaves.specs.declared.error.Check.{Check}
-use Rattle.leaves.specs.declared.error.Check.TheVariants as check
 use Rattle.leaves.specs.declared.error.Refusal.{Refusal}
 use Rattle.leaves.specs.declared.error.Refusal.TheVariants.{FileTooLarge, BufferTooShort, StreamOverBudget, StartsTooShort}
 use Rattle.leaves.specs.declared.options.EncodeOptions.{EncodeOptions}
 use Rattle.leaves.specs.Formats.{is_rgb565}
 use Rattle.leaves.specs.Lists.{cat}
-use Rattle.leaves.specs.Refusals.{first_of, first_number}
+use Rattle.leaves.specs.Refusals.{first_of, first_number, Check}
 use Rattle.leaves.specs.Sizes.{clr_used_of}
+use Rattle.leaves.specs.Options.{bitfields_in}
 use Rattle.format.specs.Accepted.{Accepted}
 use Rattle.format.specs.declared.layout.Layout.{Layout}
 use Rattle.format.specs.declared.layout.Mode.{Mode}
@@ -19,19 +18,15 @@ use Rattle.format.specs.declared.layout.Mode.TheVariants.{Masked, Calibrated, Pr
 use Rattle.format.specs.File.{raw_bytes, head_bytes_of, tail_of, rle_planned, stream_of, limit_in, stream_used, file_size_of, format_of, table_entry}
 use Rattle.format.specs.Headers.{file_header, info_header}
 use Rattle.format.specs.Input.{Input}
-use Rattle.format.specs.Layout.{is_stream, mask_tail, head_rest, head_len, raw_len, wants_rle, layout_of}
+use Rattle.format.specs.Layout.{mask_tail, head_rest, head_len, raw_len, wants_rle, layout_of}
 use Rattle.format.specs.Refusals.{buffer_too_short, stream_over_budget, check_rows, plan_rows}
 use Rattle.format.specs.Starts.{row_start}
 use Rattle.rows.specs.declared.rle.Rle.{Rle}
 use Rattle.rows.specs.Starts.{noted}
-use Rattle.format.specs.declared.layout.Coding.TheVariants.{Stream}
 use Rattle.planner.specs.declared.encoder.Encoded.{Encoded}
-use Rattle.planner.specs.declared.encoder.Encoded.TheVariants as encoded
 use Rattle.planner.specs.declared.heads.FirstFields.{FirstFields}
-use Rattle.planner.specs.declared.plan.Plan.{Plan}
-use Rattle.planner.specs.declared.plan.Plan.TheVariants.{Ready, Refused}
 use Rattle.planner.specs.declared.plan.Sizes.{Sizes}
-use Rattle.planner.specs.Answers.{later_for, plan_number, plan_bound, plan_layout, plan_sizes}
+use Rattle.planner.specs.Answers.{EncodeAnswer, PlanAnswer, later_for, plan_number, plan_bound, plan_layout, plan_sizes}
 
 -- ---- the plan
 
@@ -48,14 +43,14 @@ sizes_by limit head raw tail rle width =
     }
 
 -- layout and sizes, or the cause
-abbrev pub plan_by : Check → Layout → Sizes → Plan
-plan_by check.Passed layout sizes = Ready layout sizes
-plan_by (check.Refused why) layout sizes = Refused why
+abbrev pub plan_by : Check → Layout → Sizes → PlanAnswer
+plan_by (Ok passed) layout sizes = Ok (record { layout = layout; sizes = sizes })
+plan_by (Err why) layout sizes = Err why
 
 -- 14 decides
-unfoldable pub sizes_plan : ℕ → Layout → ℕ → ℕ → ℕ → ℕ → Plan
+unfoldable pub sizes_plan : ℕ → Layout → ℕ → ℕ → ℕ → ℕ → PlanAnswer
 sizes_plan limit layout head raw tail width =
-    plan_by (first_of ((not (is_stream layout.coding) && ltb limit (head + raw + tail), FileTooLarge) ∷ [])) layout (sizes_by limit head raw tail (is_stream layout.coding) width)
+    plan_by (first_of ((not (is_some layout.coding) && ltb limit (head + raw + tail), FileTooLarge) ∷ [])) layout (sizes_by limit head raw tail (is_some layout.coding) width)
 
 -- 1 to 14, of a plane, a palette and a profile of so many bytes
 unfoldable pub length_rows : ℕ → EncodeSource → EncodeOptions → ℕ → ℕ → ℕ → List (Bool × Refusal)
@@ -64,15 +59,15 @@ length_rows limit s o plane_bytes palette_bytes profile_bytes_of =
 
 -- what a check lets pass, as a list of one, and as a number or 0
 abbrev pub passing : {A : Type 0} → Check → A → List A
-passing check.Passed a = a ∷ []
-passing (check.Refused why) a = []
+passing (Ok passed) a = a ∷ []
+passing (Err why) a = []
 
 abbrev pub or_zero : Check → ℕ → ℕ
-or_zero check.Passed n = n
-or_zero (check.Refused why) n = 0
+or_zero (Ok passed) n = n
+or_zero (Err why) n = 0
 
 -- the promise of the plan
-pub record PlannedBy (s : EncodeSource) (o : EncodeOptions) (plane_bytes palette_bytes profile_bytes_of : ℕ) (answer : Plan) : Type 0 where
+pub record PlannedBy (s : EncodeSource) (o : EncodeOptions) (plane_bytes palette_bytes profile_bytes_of : ℕ) (answer : PlanAnswer) : Type 0 where
   -- the first of 1 to 14 that applies, or 0
   pub number : plan_number answer ≡ first_number (length_rows o.limit s o plane_bytes palette_bytes profile_bytes_of)
   pub bound : plan_bound answer ≡ or_zero (first_of (length_rows o.limit s o plane_bytes palette_bytes profile_bytes_of)) (sizes_by o.limit (head_len s o palette_bytes) (raw_len s o) profile_bytes_of (wants_rle s o) s.width).bound
@@ -88,14 +83,14 @@ sizes_of i = sizes_by (limit_in i) (head_bytes_of i) (raw_bytes i) (length (tail
 
 -- what is known of a call whose plan is ready
 pub record Planned (i : Input) (layout : Layout) (sizes : Sizes) : Type 0 where
-  pub passed : first_of (plan_rows (limit_in i) i) ≡ check.Passed
+  pub passed : first_of (plan_rows (limit_in i) i) ≡ Ok tt
   pub layout_is : layout ≡ layout_in i
   pub sizes_are : sizes ≡ sizes_of i
 
 -- and of one whose stream is under the budget: its coding and its length
 pub record Streamed (i : Input) (layout : Layout) (sizes : Sizes) (rle : Rle) (len : ℕ) : Type 0 where
   pub planned : Planned i layout sizes
-  pub coded : layout.coding ≡ Stream rle
+  pub coded : layout.coding ≡ Some rle
   pub used : stream_used (limit_in i) i ≡ true
   pub long : len ≡ length (stream_of i)
 
@@ -109,7 +104,7 @@ first_fields h =
 
 -- bytes between them and the colour table
 abbrev pub rest_len : Mode → EncodeSource → EncodeOptions → ℕ
-rest_len Masked s o = length (mask_tail o.bitfields.masks)
+rest_len Masked s o = length (mask_tail (bitfields_in o).masks)
 rest_len Calibrated s o = 68
 rest_len Profiled s o = 84
 rest_len Plain s o = cond (is_rgb565 s.format) 68 0
@@ -135,19 +130,18 @@ head_by layout s o palette head compression image_size_of file_size_of profile_s
 
 -- ---- the call
 
+-- what is said of a call's file
+abbrev pub encoded_in : Input → Encoded
+encoded_in i = record { format = format_of (limit_in i) i; bytes = file_size_of (limit_in i) i }
+
 -- the answer of a check
-abbrev pub encoded_for : Check → Input → Encoded
-encoded_for check.Passed i = encoded.File (format_of (limit_in i) i) (file_size_of (limit_in i) i)
-encoded_for (check.Refused why) i = encoded.Refused why
+abbrev pub encoded_for : Check → Input → EncodeAnswer
+encoded_for (Ok passed) i = Ok (encoded_in i)
+encoded_for (Err why) i = Err why
 
 -- 16, the last of the table
 abbrev pub stream_check : Input → Check
 stream_check i = first_of ((stream_over_budget (limit_in i) i, StreamOverBudget) ∷ [])
-
--- the answer where a plan is not ready; of a ready one it is free
-abbrev pub refusal_of : Plan → Encoded
-refusal_of (Ready layout sizes) = encoded.Refused FileTooLarge
-refusal_of (Refused why) = encoded.Refused why
 
 -- ---- both writing calls
 
@@ -160,13 +154,13 @@ list_rows limit i room offset entries needed =
 
 -- the list once the rows are written: as many starts as it has entries for
 abbrev pub noted_for : Check → Input → List ℕ → List ℕ
-noted_for check.Passed i was = noted (row_start (limit_in i) i) was i.source.height
-noted_for (check.Refused why) i was = was
+noted_for (Ok passed) i was = noted (row_start (limit_in i) i) was i.source.height
+noted_for (Err why) i was = was
 
 -- what both stand on
-pub record Wrote (decides : Check) (i : Input) (offset : ℕ) (was later starts later_starts : List ℕ) (answer : Encoded) : Type 0 where
+pub record Wrote (decides : Check) (i : Input) (offset : ℕ) (was later starts later_starts : List ℕ) (answer : EncodeAnswer) : Type 0 where
   pub answers : answer ≡ encoded_for decides i
   pub buffer : later ≡ later_for decides i offset was
   pub list : later_starts ≡ noted_for decides i starts
-  pub inside : decides ≡ check.Passed → offset ≤ length was
-  pub accepted : decides ≡ check.Passed → Accepted i
+  pub inside : decides ≡ Ok tt → offset ≤ length was
+  pub accepted : decides ≡ Ok tt → Accepted i

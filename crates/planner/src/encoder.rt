@@ -1,21 +1,20 @@
 // The writing call (the Rust's encode_source, Plan::write_head and Plan::write_into).
-ghost use Rattle.std.specs.Prelude.{◌≡◌, true, false, cond, ◌||◌, ◌+◌, ◌-◌, ◌*◌, ◌≤◌, ◌<◌, ltb, eqb, length, []};
-ghost use Rattle.leaves.specs.declared.error.Check.TheVariants.{Passed};
+ghost use Rattle.std.specs.Prelude.{◌≡◌, true, false, cond, ◌||◌, ◌+◌, ◌-◌, ◌*◌, ◌≤◌, ◌<◌, ltb, eqb, length, [], Ok};
 ghost use Rattle.leaves.specs.Put.{put};
 ghost use Rattle.leaves.specs.Refusals.{first_of};
 ghost use Rattle.format.specs.File.{max_file, stream_used, file_of, tail_of};
-ghost use Rattle.format.specs.Layout.{head_rest};
+ghost use Rattle.format.specs.Layout.{mode_of, head_rest};
 ghost use Rattle.planner.specs.Answers.{Written, WrittenWithStarts, later_for};
 ghost use Rattle.planner.specs.Calls.{called, chosen};
-ghost use Rattle.planner.specs.Plans.{Planned, Streamed, rest_len, head_by, stream_check, encoded_for, refusal_of, noted_for, list_rows, Wrote};
+ghost use Rattle.planner.specs.Plans.{Planned, Streamed, rest_len, head_by, stream_check, encoded_in, encoded_for, noted_for, list_rows, Wrote};
 
 use crate::heads::{
     FirstFields, long_bits, put_dwords, write_color_table, write_first_fields, write_masks,
     write_v4_fields,
 };
 use crate::layout::{long_masks, mode_of, tail};
-use crate::plan::{Plan, Sizes, plan_for};
-use format::layout::{Coding, Layout, Mode};
+use crate::plan::{Plan, plan_for};
+use format::layout::{Layout, Mode};
 use leaves::buffer::put_slice;
 use leaves::encoder::{EncodeSource, EncodedBmpFormat, clr_used};
 use leaves::error::Refusal;
@@ -23,15 +22,15 @@ use leaves::options::EncodeOptions;
 use leaves::types::{
     BI_RGB, BITMAPINFOHEADER_SIZE, LCS_CALIBRATED_RGB, LCS_S_RGB, PROFILE_EMBEDDED, PROFILE_LINKED,
 };
-use rows::counting::{StreamCount, rle_len};
+use rows::counting::rle_len;
 use rows::rle::{Rle, rle_into};
 
-// The answer of the writing call.
+// The file that the writing call appended.
 #[derive(Clone, Copy)]
-pub enum Encoded {
-    // The format written and the bytes appended.
-    File(EncodedBmpFormat, usize),
-    Refused(Refusal),
+pub struct Encoded {
+    pub format: EncodedBmpFormat,
+    // Bytes appended.
+    pub bytes: usize,
 }
 
 // biHeight's 32 bits: the height, negated for top-down.
@@ -50,9 +49,10 @@ fn profile_space(linked: bool) -> u32
     ensures { result ≡ cond linked 0x4C494E4B 0x4D424544 }
 {
     if linked {
-        return PROFILE_LINKED;
+        PROFILE_LINKED
+    } else {
+        PROFILE_EMBEDDED
     }
-    PROFILE_EMBEDDED
 }
 
 // What stands between the first 40 bytes of the info header and the colour table.
@@ -65,20 +65,27 @@ fn write_rest(
     buf: &mut [u8],
     at: usize,
 )
-    requires { at + rest_len mode src options ≤ length buf.old }
+    requires mode_chosen { mode ≡ mode_of src options }
+    requires in_bounds { at + rest_len mode src options ≤ length buf.old }
     ensures { buf.new ≡ put buf.old at (head_rest mode src options profile_size profile_data) }
 {
     let format = src.format;
     let masks = long_masks(format);
     match mode {
         Mode::Masked => {
-            let given = options.bitfields.masks;
-            write_masks(buf, at, given);
+            let bitfields = options.bitfields.unwrap();
+            write_masks(buf, at, bitfields.masks);
         }
         Mode::Calibrated => {
-            let endpoints = options.calibrated_rgb.endpoints;
-            let gamma = options.calibrated_rgb.gamma;
-            write_v4_fields(buf, at, masks, LCS_CALIBRATED_RGB, endpoints, gamma);
+            let given = options.calibrated_rgb.unwrap();
+            write_v4_fields(
+                buf,
+                at,
+                masks,
+                LCS_CALIBRATED_RGB,
+                given.endpoints,
+                given.gamma,
+            );
         }
         Mode::Profiled => {
             let space = profile_space(src.has_linked_icc);
@@ -98,13 +105,11 @@ fn write_rest(
 fn image_size(compression: u32, header_size: u32, raw: u32) -> u32
     ensures { result ≡ cond (eqb compression 0) (cond (eqb header_size 40) 0 raw) raw }
 {
-    if compression != BI_RGB {
-        return raw;
+    if compression == BI_RGB && header_size == BITMAPINFOHEADER_SIZE {
+        0
+    } else {
+        raw
     }
-    if header_size == BITMAPINFOHEADER_SIZE {
-        return 0;
-    }
-    raw
 }
 
 // Everything before the pixels: `head` bytes.
@@ -123,6 +128,7 @@ fn write_head(
     at: usize,
 )
     requires height_nonzero { 0 < src.height }
+    requires mode_chosen { layout.mode ≡ mode_of src options }
     requires entries_bound { layout.entries ≤ 256 }
     requires head_le_max_file { head ≤ max_file }
     requires head_length { head ≡ 54 + length (head_rest layout.mode src options 0 0) + 4 * layout.entries }
@@ -154,8 +160,7 @@ fn write_head(
 
 // The file with a stream, counted before: `len` is its length. Such a file has no profile.
 fn write_stream(
-    layout: Layout,
-    sizes: Sizes,
+    plan: Plan,
     rle: Rle,
     len: usize,
     src: EncodeSource,
@@ -166,12 +171,13 @@ fn write_stream(
     at: usize,
     starts: &mut [u64],
 ) -> Encoded
-    requires streamed { Streamed (chosen src options plane.now palette.now []) layout sizes rle len }
-    requires len_in_bounds { at + sizes.head + len ≤ length buf.old }
-    ensures answer { result ≡ encoded_for Passed (chosen src options plane.now palette.now []) }
+    requires streamed { Streamed (chosen src options plane.now palette.now []) plan.layout plan.sizes rle len }
+    requires len_in_bounds { at + plan.sizes.head + len ≤ length buf.old }
+    ensures answer { result ≡ encoded_in (chosen src options plane.now palette.now []) }
     ensures buf_after { buf.new ≡ put buf.old at (file_of options.limit (chosen src options plane.now palette.now [])) }
-    ensures starts_after { starts.new ≡ noted_for Passed (chosen src options plane.now palette.now []) starts.old }
+    ensures starts_after { starts.new ≡ noted_for (Ok tt) (chosen src options plane.now palette.now []) starts.old }
 {
+    let Plan { layout, sizes } = plan;
     let head = sizes.head;
     let size = head + len;
     write_head(
@@ -199,13 +205,15 @@ fn write_stream(
         starts,
         at,
     );
-    Encoded::File(rle.format(), size)
+    Encoded {
+        format: rle.format(),
+        bytes: size,
+    }
 }
 
 // The file of stored rows.
 fn write_rows(
-    layout: Layout,
-    sizes: Sizes,
+    plan: Plan,
     src: EncodeSource,
     options: EncodeOptions,
     plane: &[u8],
@@ -215,20 +223,20 @@ fn write_rows(
     at: usize,
     starts: &mut [u64],
 ) -> Encoded
-    requires planned { Planned (chosen src options plane.now palette.now profile.now) layout sizes }
+    requires planned { Planned (chosen src options plane.now palette.now profile.now) plan.layout plan.sizes }
     requires stream_unused { stream_used options.limit (chosen src options plane.now palette.now profile.now) ≡ false }
     requires profile_written { profile.now ≡ tail_of (chosen src options plane.now palette.now profile.now) }
-    requires file_le_max_file { sizes.file ≤ max_file }
-    requires file_in_bounds { at + sizes.file ≤ length buf.old }
-    ensures answer { result ≡ encoded_for Passed (chosen src options plane.now palette.now profile.now) }
+    requires file_le_max_file { plan.sizes.file ≤ max_file }
+    requires file_in_bounds { at + plan.sizes.file ≤ length buf.old }
+    ensures answer { result ≡ encoded_in (chosen src options plane.now palette.now profile.now) }
     ensures buf_after { buf.new ≡ put buf.old at (file_of options.limit (chosen src options plane.now palette.now profile.now)) }
-    ensures starts_after { starts.new ≡ noted_for Passed (chosen src options plane.now palette.now profile.now) starts.old }
+    ensures starts_after { starts.new ≡ noted_for (Ok tt) (chosen src options plane.now palette.now profile.now) starts.old }
 {
+    let Plan { layout, sizes } = plan;
     let head = sizes.head;
     let raw = sizes.raw as u32;
     let pixels = at + head;
     let pack = layout.pack;
-    let written = layout.format;
     write_head(
         layout,
         src,
@@ -255,14 +263,16 @@ fn write_rows(
         at,
     );
     put_slice(buf, pixels + sizes.raw, profile);
-    Encoded::File(written, sizes.file)
+    Encoded {
+        format: layout.format,
+        bytes: sizes.file,
+    }
 }
 
 // Writes a planned file into a buffer that has room for it: the stream, counted first within the budget, or
 // the stored rows, or 16. The start of each row is noted as far as the list goes.
 fn write_into(
-    layout: Layout,
-    sizes: Sizes,
+    plan: Plan,
     src: EncodeSource,
     options: EncodeOptions,
     plane: &[u8],
@@ -271,56 +281,40 @@ fn write_into(
     buf: &mut [u8],
     at: usize,
     starts: &mut [u64],
-) -> Encoded
-    requires planned { Planned (chosen src options plane.now palette.now profile.now) layout sizes }
+) -> Result<Encoded, Refusal>
+    requires planned { Planned (chosen src options plane.now palette.now profile.now) plan.layout plan.sizes }
     requires profile_written { profile.now ≡ tail_of (chosen src options plane.now palette.now profile.now) }
-    requires bound_in_bounds { at + sizes.bound ≤ length buf.old }
+    requires bound_in_bounds { at + plan.sizes.bound ≤ length buf.old }
     ensures answer { result ≡ encoded_for (stream_check (chosen src options plane.now palette.now profile.now)) (chosen src options plane.now palette.now profile.now) }
     ensures buf_after { buf.new ≡ later_for (stream_check (chosen src options plane.now palette.now profile.now)) (chosen src options plane.now palette.now profile.now) at buf.old }
     ensures starts_after { starts.new ≡ noted_for (stream_check (chosen src options plane.now palette.now profile.now)) (chosen src options plane.now palette.now profile.now) starts.old }
 {
-    let coding = layout.coding;
-    if let Coding::Stream(rle) = coding {
+    if let Some(rle) = plan.layout.coding {
         let count = rle_len(
             rle,
             plane,
             src.stride,
             src.width,
             src.height,
-            sizes.rle_budget,
+            plan.sizes.rle_budget,
         );
-        if let StreamCount::Under(len) = count {
-            return write_stream(
-                layout, sizes, rle, len, src, options, plane, palette, buf, at, starts,
-            );
+        if let Some(len) = count {
+            return Ok(write_stream(
+                plan, rle, len, src, options, plane, palette, buf, at, starts,
+            ));
         }
-        if !sizes.file_fits {
-            return Encoded::Refused(Refusal::StreamOverBudget);
+        if !plan.sizes.file_fits {
+            return Err(Refusal::StreamOverBudget);
         }
     }
-    write_rows(
-        layout, sizes, src, options, plane, palette, profile, buf, at, starts,
-    )
-}
-
-// The refusal of a plan that is not ready.
-fn refusal(plan: Plan) -> Encoded
-    ensures { result ≡ refusal_of plan }
-{
-    match plan {
-        Plan::Ready(_, _) => Encoded::Refused(Refusal::FileTooLarge),
-        Plan::Refused(why) => Encoded::Refused(why),
-    }
+    Ok(write_rows(plan, src, options, plane, palette, profile, buf, at, starts))
 }
 
 // 15.
 fn too_short(room: usize, offset: usize, bound: usize) -> bool
     ensures { result ≡ ltb room offset || ltb (room - offset) bound }
 {
-    if room < offset {
-        return true;
-    }
-    room - offset < bound
+    room < offset || room - offset < bound
 }
 
 // What both writing calls do. The call that fills no list lends an empty one, of which no entry is needed.
@@ -335,12 +329,12 @@ fn encode_source<'a>(
     offset: usize,
     starts: &mut [u64],
     needed: usize,
-) -> Encoded
+) -> Result<Encoded, Refusal>
     ensures { Wrote (first_of (list_rows options.limit (called src options plane.now palette.now icc.now linked_icc.now) (length out.old) offset (length starts.old) needed)) (called src options plane.now palette.now icc.now linked_icc.now) offset out.old out.new starts.old starts.new result }
 {
     let mode = mode_of(src, options);
     let profile = tail(mode, src.has_linked_icc, icc, linked_icc);
-    let plan = plan_for(
+    let planned = plan_for(
         mode,
         src,
         options,
@@ -348,17 +342,18 @@ fn encode_source<'a>(
         palette.len(),
         profile.len(),
     );
-    let Plan::Ready(layout, sizes) = plan else {
-        return refusal(plan);
+    // Document 01 names this form, let-else on the plan, and not `?`: "any other answer leaves with its number".
+    let Ok(plan) = planned else {
+        return Err(planned.unwrap_err());
     };
-    if too_short(out.len(), offset, sizes.bound) {
-        return Encoded::Refused(Refusal::BufferTooShort);
+    if too_short(out.len(), offset, plan.sizes.bound) {
+        return Err(Refusal::BufferTooShort);
     }
     if starts.len() < needed {
-        return Encoded::Refused(Refusal::StartsTooShort);
+        return Err(Refusal::StartsTooShort);
     }
     write_into(
-        layout, sizes, src, options, plane, palette, profile, out, offset, starts,
+        plan, src, options, plane, palette, profile, out, offset, starts,
     )
 }
 
@@ -372,7 +367,7 @@ pub fn encode_into<'a>(
     linked_icc: &'a [u8],
     out: &mut [u8],
     offset: usize,
-) -> Encoded
+) -> Result<Encoded, Refusal>
     ensures { Written (called src options plane.now palette.now icc.now linked_icc.now) offset out.old out.new result }
 {
     let mut none = [0u64; 0];
@@ -393,7 +388,7 @@ pub fn encode_with_starts<'a>(
     out: &mut [u8],
     offset: usize,
     starts: &mut [u64],
-) -> Encoded
+) -> Result<Encoded, Refusal>
     ensures { WrittenWithStarts (called src options plane.now palette.now icc.now linked_icc.now) offset out.old out.new starts.old starts.new result }
 {
     let needed = src.height as usize;

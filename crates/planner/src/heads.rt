@@ -9,7 +9,7 @@ ghost use Rattle.format.specs.Headers.{dwords, file_header, info_header, v4_fiel
 ghost use Rattle.format.specs.Layout.{mask_tail};
 ghost use Rattle.planner.specs.Plans.{first_fields};
 
-use leaves::buffer::{put_slice, put_u16, put_u32};
+use leaves::buffer::{put_number, put_slice};
 use leaves::types::BMP_MAGIC;
 
 // What the two headers of every file hold, but for their constant fields.
@@ -35,11 +35,8 @@ pub(crate) fn put_dwords(buf: &mut [u8], at: usize, src: &[u32])
     requires src_in_bounds { at + 4 * length src.now ≤ length buf.old }
     ensures { buf.new ≡ put buf.old at (dwords src.now) }
 {
-    let n = src.len();
-    let mut i = 0;
-    while i < n {
-        put_u32(buf, at + 4 * i, src[i]);
-        i += 1;
+    for i in 0..src.len() {
+        put_number(buf, at + 4 * i, src[i]);
     }
 }
 
@@ -47,11 +44,7 @@ pub(crate) fn put_dwords(buf: &mut [u8], at: usize, src: &[u32])
 pub(crate) fn long_bits(v: i32) -> u32
     ensures { result ≡ of_z w32 v }
 {
-    if v < 0 {
-        let below = (-(v + 1)) as u32;
-        return 0xFFFF_FFFF - below;
-    }
-    v as u32
+    v.cast_unsigned()
 }
 
 // LONGs in a row.
@@ -60,12 +53,8 @@ fn put_longs(buf: &mut [u8], at: usize, src: &[i32])
     requires src_in_bounds { at + 4 * length src.now ≤ length buf.old }
     ensures { buf.new ≡ put buf.old at (dwords (longs src.now)) }
 {
-    let n = src.len();
-    let mut i = 0;
-    while i < n {
-        let bits = long_bits(src[i]);
-        put_u32(buf, at + 4 * i, bits);
-        i += 1;
+    for i in 0..src.len() {
+        put_number(buf, at + 4 * i, long_bits(src[i]));
     }
 }
 
@@ -75,7 +64,7 @@ pub(crate) fn write_first_fields(buf: &mut [u8], at: usize, h: FirstFields)
     requires { at + 54 ≤ length buf.old }
     ensures { buf.new ≡ put buf.old at (first_fields h) }
 {
-    put_u16(buf, at, BMP_MAGIC);
+    put_number(buf, at, BMP_MAGIC);
     let planes_and_depth = 1 + 65536 * h.bit_count as u32;
     let fields = [
         h.file_size,
@@ -108,7 +97,7 @@ pub(crate) fn write_v4_fields(
     ensures { buf.new ≡ put buf.old at (v4_fields masks color_space (longs endpoints) gamma) }
 {
     put_dwords(buf, at, &masks);
-    put_u32(buf, at + 16, color_space);
+    put_number(buf, at + 16, color_space);
     put_longs(buf, at + 20, &endpoints);
     put_dwords(buf, at + 56, &gamma);
 }
@@ -122,7 +111,7 @@ pub(crate) fn write_masks(buf: &mut [u8], at: usize, masks: [u32; 4])
     put_dwords(buf, at, &colours);
     let alpha = masks[3];
     if alpha != 0 {
-        put_u32(buf, at + 12, alpha);
+        put_number(buf, at + 12, alpha);
     }
 }
 
@@ -130,10 +119,7 @@ pub(crate) fn write_masks(buf: &mut [u8], at: usize, masks: [u32; 4])
 fn byte_or_zero(bytes: &[u8], at: usize) -> u8
     ensures { result ≡ get_or bytes.now at 0 }
 {
-    if at < bytes.len() {
-        return bytes[at];
-    }
-    0
+    bytes.get(at).copied().unwrap_or(0)
 }
 
 // RGBQUAD k of a palette.
@@ -153,10 +139,8 @@ pub(crate) fn write_color_table(buf: &mut [u8], at: usize, palette: &[u8], entri
     requires entries_in_bounds { at + 4 * entries ≤ length buf.old }
     ensures { buf.new ≡ put buf.old at (cat (table_entry palette.now) entries) }
 {
-    let mut k = 0;
-    while k < entries {
+    for k in 0..entries {
         let entry = table_entry(palette, k);
         put_slice(buf, at + k * 4, &entry);
-        k += 1;
     }
 }

@@ -1,11 +1,11 @@
 // What a file looks like, decided once for each call (the Rust's Head, Rows and the choices of Plan::new).
-ghost use Rattle.std.specs.Prelude.{◌≡◌, true, not, cond, ◌&&◌, ℕ, ◌+◌, ◌*◌, ◌<◌, ◌≤◌, length, get_or};
+ghost use Rattle.std.specs.Prelude.{◌≡◌, true, not, cond, ◌&&◌, ℕ, ◌+◌, ◌*◌, ◌<◌, ◌≤◌, length, get_or, None, is_some};
 ghost use Rattle.leaves.specs.Formats.{bits_per_pixel};
 ghost use Rattle.leaves.specs.Masks.{is_one_run, has_alpha_mask};
-ghost use Rattle.format.specs.declared.layout.Coding.TheVariants.{Nothing};
-ghost use Rattle.format.specs.Layout.{mode_of, is_masked, is_profiled, is_plain, tail_in, plain_pack, mask_pack, table_entries, header_size_of, long_masks, head_rest, head_len, plain_compression, mask_format, coding_at, coded, layout_of};
+ghost use Rattle.leaves.specs.Options.{bitfields_in};
+ghost use Rattle.format.specs.Layout.{mode_of, is_profiled, is_plain, tail_in, plain_pack, mask_pack, table_entries, header_size_of, long_masks, head_rest, head_len, plain_compression, mask_format, coding_at, coded, layout_of};
 
-use format::layout::{Coding, Layout, Mode};
+use format::layout::{Layout, Mode};
 use leaves::bitfields::BmpBitfields;
 use leaves::checks::profile_mode;
 use leaves::encoder::{
@@ -25,10 +25,10 @@ use rows::rle::Rle;
 pub fn mode_of(src: EncodeSource, options: EncodeOptions) -> Mode
     ensures { result ≡ mode_of src options }
 {
-    if options.has_bitfields {
+    if options.bitfields.is_some() {
         return Mode::Masked;
     }
-    if options.has_calibrated_rgb {
+    if options.calibrated_rgb.is_some() {
         return Mode::Calibrated;
     }
     if profile_mode(src.has_linked_icc, src.has_icc, options.embed_icc) {
@@ -37,37 +37,16 @@ pub fn mode_of(src: EncodeSource, options: EncodeOptions) -> Mode
     Mode::Plain
 }
 
-fn is_masked(mode: Mode) -> bool
-    ensures { result ≡ is_masked mode }
-{
-    match mode {
-        Mode::Masked => true,
-        Mode::Calibrated => false,
-        Mode::Profiled => false,
-        Mode::Plain => false,
-    }
-}
-
 fn is_profiled(mode: Mode) -> bool
     ensures { result ≡ is_profiled mode }
 {
-    match mode {
-        Mode::Masked => false,
-        Mode::Calibrated => false,
-        Mode::Profiled => true,
-        Mode::Plain => false,
-    }
+    matches!(mode, Mode::Profiled)
 }
 
 fn is_plain(mode: Mode) -> bool
     ensures { result ≡ is_plain mode }
 {
-    match mode {
-        Mode::Masked => false,
-        Mode::Calibrated => false,
-        Mode::Profiled => false,
-        Mode::Plain => true,
-    }
+    matches!(mode, Mode::Plain)
 }
 
 // The profile that becomes the tail: one of the two lent slices, or an empty part.
@@ -138,16 +117,9 @@ pub(crate) fn long_masks(format: BmpPixelFormat) -> [u32; 4]
     ensures { result ≡ long_masks format }
 {
     match format {
-        BmpPixelFormat::Rgba => RGBA32_ALPHA_MASK_V4_V5,
-        BmpPixelFormat::Rgb24 => [0; 4],
-        BmpPixelFormat::Bgra => RGBA32_ALPHA_MASK_V4_V5,
-        BmpPixelFormat::Bgr24 => [0; 4],
-        BmpPixelFormat::Rgb555 => [0; 4],
+        BmpPixelFormat::Rgba | BmpPixelFormat::Bgra => RGBA32_ALPHA_MASK_V4_V5,
         BmpPixelFormat::Rgb565 => RGB565_MASKS_V5,
-        BmpPixelFormat::Pal8 => [0; 4],
-        BmpPixelFormat::Indexed4 => [0; 4],
-        BmpPixelFormat::Indexed2 => [0; 4],
-        BmpPixelFormat::Indexed1 => [0; 4],
+        _ => [0; 4],
     }
 }
 
@@ -172,26 +144,24 @@ fn mask_format(bitfields: BmpBitfields) -> EncodedBmpFormat
 }
 
 // The coding of indices of a depth, if it has one.
-fn coding_at(bit_count: u16) -> Coding
+fn coding_at(bit_count: u16) -> Option<Rle>
     ensures { result ≡ coding_at bit_count }
 {
-    if bit_count == 8 {
-        return Coding::Stream(Rle::Rle8);
+    match bit_count {
+        8 => Some(Rle::Rle8),
+        4 => Some(Rle::Rle4),
+        _ => None,
     }
-    if bit_count == 4 {
-        return Coding::Stream(Rle::Rle4);
-    }
-    Coding::Nothing
 }
 
 // The stream that is tried.
-fn coding_of(mode: Mode, format: BmpPixelFormat, rle: bool, top_down: bool) -> Coding
-    ensures { result ≡ cond (is_plain mode && coded format && rle && not top_down) (coding_at (bits_per_pixel format)) Nothing }
+fn coding_of(mode: Mode, format: BmpPixelFormat, rle: bool, top_down: bool) -> Option<Rle>
+    ensures { result ≡ cond (is_plain mode && coded format && rle && not top_down) (coding_at (bits_per_pixel format)) None }
 {
     if rle && !top_down && is_plain(mode) {
         return coding_at(format.bits_per_pixel());
     }
-    Coding::Nothing
+    None
 }
 
 // Entries of the colour table, for a palette of so many bytes.
@@ -213,25 +183,24 @@ pub(crate) fn layout_of(
     palette_bytes: usize,
 ) -> Layout
     requires mode_chosen { mode ≡ mode_of src options }
-    requires masks_checked { options.has_bitfields ≡ true → (k : ℕ) → k < 4 → is_one_run (get_or options.bitfields.masks k 0) ≡ true }
+    requires masks_checked { is_some options.bitfields ≡ true → (k : ℕ) → k < 4 → is_one_run (get_or (bitfields_in options).masks k 0) ≡ true }
     ensures { result ≡ layout_of src options palette_bytes }
 {
     let format = src.format;
     let header_size = header_size(mode, format);
     let entries = table_entries(format, palette_bytes, options.minimal_palette);
     let coding = coding_of(mode, format, options.rle, options.top_down);
-    if is_masked(mode) {
-        let masks = options.bitfields.masks;
-        let pack = mask_pack(format, options.bitfields.bpp, masks);
-        let written = mask_format(options.bitfields);
+    if let Some(bitfields) = options.bitfields {
+        let pack = mask_pack(format, bitfields.bpp, bitfields.masks);
+        let written = mask_format(bitfields);
         return Layout {
             mode,
             header_size,
-            bit_count: options.bitfields.bpp,
+            bit_count: bitfields.bpp,
             entries,
             coding,
             pack,
-            compression: options.bitfields.compression(),
+            compression: bitfields.compression(),
             format: written,
         };
     }
@@ -250,16 +219,13 @@ pub(crate) fn layout_of(
 }
 
 // Bytes of the masks that stand behind a 40-byte header.
-fn mask_bytes(mode: Mode, bitfields: BmpBitfields) -> usize
-    ensures { result ≡ cond (is_masked mode) (cond (has_alpha_mask bitfields.masks) 16 12) 0 }
+fn mask_bytes(options: EncodeOptions) -> usize
+    ensures { result ≡ cond (is_some options.bitfields) (cond (has_alpha_mask (bitfields_in options).masks) 16 12) 0 }
 {
-    if is_masked(mode) {
-        if bitfields.has_alpha() {
-            return 16;
-        }
-        return 12;
+    match options.bitfields {
+        Some(bitfields) => { if bitfields.has_alpha() { 16 } else { 12 } }
+        None => 0,
     }
-    0
 }
 
 // Bytes before the pixels.
@@ -272,6 +238,5 @@ pub(crate) fn head_len(
     requires { layout ≡ layout_of src options palette_bytes }
     ensures { (result ≡ head_len src options palette_bytes) × (result ≤ 1162) }
 {
-    let mode = layout.mode;
-    14 + layout.header_size as usize + mask_bytes(mode, options.bitfields) + 4 * layout.entries
+    14 + layout.header_size as usize + mask_bytes(options) + 4 * layout.entries
 }

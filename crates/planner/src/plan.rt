@@ -1,24 +1,24 @@
 // The plan of a call, decided before the first byte is written (the Rust's Sizes and Plan), and the size
 // query.
-ghost use Rattle.std.specs.Prelude.{◌≡◌, true, [], ◌∷◌, ◌+◌, ◌-◌, ◌≤◌, ◌<◌, ◌^◌, min, max, leb};
+ghost use Rattle.std.specs.Prelude.{◌≡◌, true, [], ◌∷◌, ◌+◌, ◌-◌, ◌≤◌, ◌<◌, ◌^◌, min, leb, is_some};
 ghost use Rattle.leaves.specs.declared.error.Refusal.TheVariants.{MaskSource};
 ghost use Rattle.leaves.specs.Formats.{mask_source};
 ghost use Rattle.leaves.specs.Refusals.{first_of};
 ghost use Rattle.format.specs.File.{max_file};
-ghost use Rattle.format.specs.Layout.{mode_of, wants_rle, is_stream};
+ghost use Rattle.format.specs.Layout.{mode_of, wants_rle};
 ghost use Rattle.format.specs.Refusals.{given_masks_rows, check_rows};
 ghost use Rattle.planner.specs.Answers.{Sized};
 ghost use Rattle.planner.specs.Calls.{called};
 ghost use Rattle.planner.specs.Plans.{PlannedBy, sizes_plan};
 
 use crate::layout::{head_len, layout_of, mode_of, tail};
-use format::layout::{Coding, Layout, Mode};
+use format::layout::{Layout, Mode};
 use leaves::bitfields::validate;
 use leaves::checks::{
     check_dimensions, check_modes, check_palette, check_plane, check_settings, profile_mode,
 };
 use leaves::encoder::EncodeSource;
-use leaves::error::{Check, Refusal};
+use leaves::error::Refusal;
 use leaves::image::BmpPixelFormat;
 use leaves::options::EncodeOptions;
 use leaves::types::row_stride;
@@ -39,41 +39,32 @@ pub struct Sizes {
     pub bound: usize,
 }
 
-// What a call will write, decided before the first byte is written; or why it writes nothing.
+// What a call will write, decided before the first byte is written.
 #[derive(Clone, Copy)]
-pub enum Plan {
-    Ready(Layout, Sizes),
-    Refused(Refusal),
-}
-
-// The answer of the size query.
-#[derive(Clone, Copy)]
-pub enum SizeBound {
-    Bytes(usize),
-    Refused(Refusal),
+pub struct Plan {
+    pub layout: Layout,
+    pub sizes: Sizes,
 }
 
 // 11.
-fn check_source(format: BmpPixelFormat) -> Check
+fn check_source(format: BmpPixelFormat) -> Result<(), Refusal>
     ensures { result ≡ first_of ((mask_source format, MaskSource) ∷ []) }
 {
     if format.takes_masks() {
-        return Check::Passed;
+        return Ok(());
     }
-    Check::Refused(Refusal::MaskSource)
+    Err(Refusal::MaskSource)
 }
 
 // 6 to 11.
-fn check_masks(src: EncodeSource, options: EncodeOptions) -> Check
+fn check_masks(src: EncodeSource, options: EncodeOptions) -> Result<(), Refusal>
     ensures { result ≡ first_of (given_masks_rows src options) }
 {
-    let format = src.format;
-    if options.has_bitfields {
-        let masks = options.bitfields.masks;
-        let check = validate(options.bitfields.bpp, masks);
-        return check.or(check_source(format));
+    if let Some(bitfields) = options.bitfields {
+        validate(bitfields.bpp, bitfields.masks)?;
+        check_source(src.format)?;
     }
-    Check::Passed
+    Ok(())
 }
 
 // 1 to 13 with 20 and 21, of a plane and a palette of so many bytes.
@@ -82,47 +73,38 @@ fn checks(
     options: EncodeOptions,
     plane_bytes: usize,
     palette_bytes: usize,
-) -> Check
+) -> Result<(), Refusal>
     ensures { result ≡ first_of (check_rows src options plane_bytes palette_bytes) }
 {
     let format = src.format;
     let profile = profile_mode(src.has_linked_icc, src.has_icc, options.embed_icc);
-    let pixel = format.bytes_per_pixel();
-    let dimensions = check_dimensions(src.width, src.height);
-    let settings = check_settings(
+    check_dimensions(src.width, src.height)?;
+    check_settings(
         options.limit,
         options.x_pels_per_meter,
         options.y_pels_per_meter,
-    );
-    let palette = check_palette(format.is_indexed(), src.has_palette, palette_bytes);
-    let modes = check_modes(options.has_bitfields, options.has_calibrated_rgb, profile);
-    let masks = check_masks(src, options);
-    let plane = check_plane(src.width, src.height, src.stride, pixel, plane_bytes);
-    dimensions
-        .or(settings)
-        .or(palette)
-        .or(modes)
-        .or(masks)
-        .or(plane)
-}
-
-fn is_stream(coding: Coding) -> bool
-    ensures { result ≡ is_stream coding }
-{
-    match coding {
-        Coding::Stream(_) => true,
-        Coding::Nothing => false,
-    }
+    )?;
+    check_palette(format.is_indexed(), src.has_palette, palette_bytes)?;
+    check_modes(
+        options.bitfields.is_some(),
+        options.calibrated_rgb.is_some(),
+        profile,
+    )?;
+    check_masks(src, options)?;
+    check_plane(
+        src.width,
+        src.height,
+        src.stride,
+        format.bytes_per_pixel(),
+        plane_bytes,
+    )
 }
 
 // Whether a file is no longer than the limit. A profile is compared before it is added: no sum can wrap.
 fn fits(body: usize, profile_bytes: usize, limit: usize) -> bool
     ensures { result ≡ leb (body + profile_bytes) limit }
 {
-    if body <= limit {
-        return profile_bytes <= limit - body;
-    }
-    false
+    body <= limit && profile_bytes <= limit - body
 }
 
 // The length that a stream must stay below.
@@ -130,23 +112,7 @@ fn budget(head: usize, raw: usize, limit: usize) -> usize
     requires { limit ≤ max_file }
     ensures { result ≡ min raw (limit + 1 - head) }
 {
-    if limit < head {
-        return 0;
-    }
-    let room = limit + 1 - head;
-    if raw < room {
-        return raw;
-    }
-    room
-}
-
-fn larger(a: usize, b: usize) -> usize
-    ensures { result ≡ max a b }
-{
-    if a < b {
-        return b;
-    }
-    a
+    raw.min((limit + 1).saturating_sub(head))
 }
 
 // The sizes of a file of at most `limit` bytes, or 14.
@@ -157,47 +123,42 @@ fn sizes_for(
     profile_bytes: usize,
     width: u32,
     limit: usize,
-) -> Plan
+) -> Result<Plan, Refusal>
     requires limit_le_max_file { limit ≤ max_file }
     requires head_bound { head ≤ 1162 }
     requires raw_bound { raw + 2 ^ 33 ≤ 2 ^ 64 }
-    requires stream_unprofiled { is_stream layout.coding ≡ true → profile_bytes ≡ 0 }
+    requires stream_unprofiled { is_some layout.coding ≡ true → profile_bytes ≡ 0 }
     ensures { result ≡ sizes_plan limit layout head raw profile_bytes width }
 {
-    let coding = layout.coding;
     let body = head + raw;
     let file_fits = fits(body, profile_bytes, limit);
     let rle_budget = budget(head, raw, limit);
-    if is_stream(coding) {
+    if layout.coding.is_some() {
         let fallback = if file_fits { raw } else { 0 };
-        let bound = head + larger(rle_budget + 2 * width as usize + 2, fallback);
-        return Plan::Ready(
-            layout,
-            Sizes {
-                head,
-                raw,
-                file: body,
-                file_fits,
-                rle_budget,
-                bound,
-            },
-        );
+        let stream = rle_budget + 2 * width as usize + 2;
+        let sizes = Sizes {
+            head,
+            raw,
+            file: body,
+            file_fits,
+            rle_budget,
+            bound: head + stream.max(fallback),
+        };
+        return Ok(Plan { layout, sizes });
     }
-    if file_fits {
-        let file = body + profile_bytes;
-        return Plan::Ready(
-            layout,
-            Sizes {
-                head,
-                raw,
-                file,
-                file_fits,
-                rle_budget,
-                bound: file,
-            },
-        );
+    if !file_fits {
+        return Err(Refusal::FileTooLarge);
     }
-    Plan::Refused(Refusal::FileTooLarge)
+    let file = body + profile_bytes;
+    let sizes = Sizes {
+        head,
+        raw,
+        file,
+        file_fits,
+        rle_budget,
+        bound: file,
+    };
+    Ok(Plan { layout, sizes })
 }
 
 // 1 to 14 with 20 and 21, and layout and sizes of what they let pass.
@@ -208,15 +169,12 @@ pub(crate) fn plan_for(
     plane_bytes: usize,
     palette_bytes: usize,
     profile_bytes: usize,
-) -> Plan
+) -> Result<Plan, Refusal>
     requires mode_chosen { mode ≡ mode_of src options }
     requires stream_unprofiled { wants_rle src options ≡ true → profile_bytes ≡ 0 }
     ensures { PlannedBy src options plane_bytes palette_bytes profile_bytes result }
 {
-    let check = checks(src, options, plane_bytes, palette_bytes);
-    if let Check::Refused(why) = check {
-        return Plan::Refused(why);
-    }
+    checks(src, options, plane_bytes, palette_bytes)?;
     let layout = layout_of(mode, src, options, palette_bytes);
     let head = head_len(layout, src, options, palette_bytes);
     let raw = row_stride(src.width, layout.bit_count) * src.height as usize;
@@ -238,7 +196,7 @@ pub fn encoded_size_bound<'a>(
     palette: &[u8],
     icc: &'a [u8],
     linked_icc: &'a [u8],
-) -> SizeBound
+) -> Result<usize, Refusal>
     ensures { Sized (called src options plane.now palette.now icc.now linked_icc.now) result }
 {
     let mode = mode_of(src, options);
@@ -250,9 +208,6 @@ pub fn encoded_size_bound<'a>(
         plane.len(),
         palette.len(),
         profile.len(),
-    );
-    match plan {
-        Plan::Ready(_, sizes) => SizeBound::Bytes(sizes.bound),
-        Plan::Refused(why) => SizeBound::Refused(why),
-    }
+    )?;
+    Ok(plan.sizes.bound)
 }

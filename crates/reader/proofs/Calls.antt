@@ -16,11 +16,14 @@ use Rattle.format.specs.Decode.{decode}
 use Rattle.format.specs.Readers.{Fields, fields_of, word_at, dword_at, shown_height, table_count, row_length}
 use Rattle.format.proofs.Passing.{or_false}
 use Rattle.format.proofs.PlainCells.{length_row}
+use Rattle.std.specs.Prelude.{Result, Err}
 use Rattle.reader.specs.declared.read.Reading.{Reading}
 use Rattle.reader.specs.declared.read.ReadingSizes.{ReadingSizes}
-use Rattle.reader.specs.Answers.{sizes_for, refused_reading, rows_shown, rows_in, Outcome, Read}
+use Rattle.reader.specs.declared.refusal.ReadRefusal.{ReadRefusal}
+use Rattle.reader.specs.declared.refusal.ReadRefusal.TheVariants.{NeverWritten, OutsideFile, BufferTooShort, StreamFails}
+use Rattle.reader.specs.Answers.{sizes_answered, answered, ReadAnswer, SizesAnswer, sizes_for, refused_reading, rows_shown, rows_in, Outcome, Read}
 use Rattle.reader.specs.Numbers.{numbers_of, numbers_each, cell_count, head_bytes_of, head_in, table_bytes_of, table_in, profile_at_of, profile_bytes_of}
-use Rattle.reader.specs.Refusals.{written_pair, is_coded, never_written, outside_file, buffers_too_short, stream_fails, open_rows, read_rows}
+use Rattle.reader.specs.Refusals.{number_of, written_pair, is_coded, never_written, outside_file, buffers_too_short, stream_fails, open_rows, read_rows}
 use Rattle.reader.specs.Rows.{plain_numbers, stream_numbers, WrittenKind}
 use Rattle.cells.specs.Streams.{cells_in}
 use Rattle.reader.proofs.Heads.{Sound, head_parts}
@@ -42,6 +45,12 @@ module _ (file : List ℕ) (bytes : (k : ℕ) → get_or file k 0 < 256) where
   opened_bytes never outside = opened file (fields_of file) refl height_small never outside
 
 -- ---- the numbers
+
+pub number_some : (why : ReadRefusal) → number_of why ≡ 0 → ⊥
+number_some NeverWritten e = suc-ne-zero 16 e
+number_some OutsideFile e = suc-ne-zero 17 e
+number_some BufferTooShort e = suc-ne-zero 14 e
+number_some StreamFails e = suc-ne-zero 18 e
 
 module _ (file : List ℕ) where
   -- 17 and 18 do not apply
@@ -80,21 +89,22 @@ module _ (file : List ℕ) where
 
   -- ---- the sizes
 
-  pub sizes_refused : (n : ℕ) → n ≡ first_applying (open_rows file) → (n ≡ 0 → ⊥)
-      → record { refusal = n; width = 0; height = 0; depth = 0; head_bytes = 0; table_bytes = 0; cell_numbers = 0 } ≡ sizes_for (first_applying (open_rows file)) file
-  sizes_refused n e z = rw (← e) (go n z)
+  pub sizes_refused : (why : ReadRefusal) (r : Result ReadingSizes ReadRefusal) → r ≡ Err why → number_of why ≡ first_applying (open_rows file) → sizes_answered r ≡ sizes_for (first_applying (open_rows file)) file
+  sizes_refused why r q e = ap sizes_answered q ∙ go why ∙ ap (λ (n : ℕ). sizes_for n file) e
     where
-      go : (n : ℕ) → (n ≡ 0 → ⊥) → record { refusal = n; width = 0; height = 0; depth = 0; head_bytes = 0; table_bytes = 0; cell_numbers = 0 } ≡ sizes_for n file
-      go zero z = absurd (z refl)
-      go (suc n) z = refl
+      go : (why : ReadRefusal) → sizes_answered (Err why) ≡ sizes_for (number_of why) file
+      go NeverWritten = refl
+      go OutsideFile = refl
+      go BufferTooShort = refl
+      go StreamFails = refl
 
-  pub sizes_told : (t : Fields) (n height table each : ℕ) → t ≡ fields_of file → n ≡ first_applying (open_rows file) → n ≡ 0 → height ≡ shown_height t → table ≡ table_count t → each ≡ numbers_each t
+  pub sizes_told : (t : Fields) (height table each : ℕ) → t ≡ fields_of file → 0 ≡ first_applying (open_rows file) → height ≡ shown_height t → table ≡ table_count t → each ≡ numbers_each t
       → record { refusal = 0; width = t.width; height = height; depth = t.depth; head_bytes = 14 + t.header_size_of; table_bytes = 4 * table; cell_numbers = t.width * height * each }
       ≡ sizes_for (first_applying (open_rows file)) file
-  sizes_told t n height table each e q z h a b = rw (h, a, b, ← q, z, e)
+  sizes_told t height table each e q h a b = rw (h, a, b, ← q, e)
 
   -- a file that opens, and its sizes
-  pub record Sizes (s : ReadingSizes) : Type 0 where
+  pub record Sizes (s : SizesAnswer) : Type 0 where
     pub never : never_written file ≡ false
     pub outside : outside_file file ≡ false
     pub sizes : s ≡ sizes_for 0 file
@@ -103,15 +113,15 @@ module _ (file : List ℕ) where
   refusal_of_lem zero = refl
   refusal_of_lem (suc n) = refl
 
-  pub sizes_open : (s : ReadingSizes) → s ≡ sizes_for (first_applying (open_rows file)) file → s.refusal ≡ 0 → Sizes s
+  pub sizes_open : (s : SizesAnswer) → s ≡ sizes_for (first_applying (open_rows file)) file → s.refusal ≡ 0 → Sizes s
   sizes_open s e z =
-      let n : first_applying (open_rows file) ≡ 0 = sym (refusal_of_lem (first_applying (open_rows file))) ∙ sym (ap (λ (r : ReadingSizes). r.refusal) e) ∙ z in
+      let n : first_applying (open_rows file) ≡ 0 = sym (refusal_of_lem (first_applying (open_rows file))) ∙ sym (ap (λ (r : SizesAnswer). r.refusal) e) ∙ z in
       let p = open_passes n in
       record { never = p.0; outside = p.1; sizes = e ∙ ap (λ (k : ℕ). sizes_for k file) n }
 
-  pub sizes_stop : (s : ReadingSizes) (head table cells : ℕ) → s ≡ sizes_for (first_applying (open_rows file)) file → (s.refusal ≡ 0 → ⊥) → s.refusal ≡ first_applying (read_rows file head table cells)
+  pub sizes_stop : (s : SizesAnswer) (head table cells : ℕ) → s ≡ sizes_for (first_applying (open_rows file)) file → (s.refusal ≡ 0 → ⊥) → s.refusal ≡ first_applying (read_rows file head table cells)
   sizes_stop s head table cells e z =
-      number_open head table cells s.refusal (ap (λ (r : ReadingSizes). r.refusal) e ∙ refusal_of_lem (first_applying (open_rows file))) z
+      number_open head table cells s.refusal (ap (λ (r : SizesAnswer). r.refusal) e ∙ refusal_of_lem (first_applying (open_rows file))) z
 
   -- head and table lie in the file
   pub table_inside : outside_file file ≡ false → head_bytes_of (fields_of file) + table_bytes_of (fields_of file) ≤ length file
@@ -120,14 +130,20 @@ module _ (file : List ℕ) where
   -- ---- the readings
 
   module _ (head table cells : List ℕ) where
-    pub read_refused : (n : ℕ) (r : Reading) → n ≡ first_applying (read_rows file (length head) (length table) (length cells)) → (n ≡ 0 → ⊥) → r ≡ refused_reading n
+    pub read_refused : (n : ℕ) (r : ReadAnswer) → n ≡ first_applying (read_rows file (length head) (length table) (length cells)) → (n ≡ 0 → ⊥) → r ≡ refused_reading n
         → Read file head table cells head table cells r
     read_refused zero r e z q = absurd (z refl)
     read_refused (suc n) r e z q =
-        subst (λ (a : Reading). Read file head table cells head table cells a) (sym q)
+        subst (λ (a : ReadAnswer). Read file head table cells head table cells a) (sym q)
         (record { number = e; outcome = record { answer = refl; same_head = refl; same_table = refl; same_cells = refl } })
 
-    pub read_done : (bytes : (k : ℕ) → get_or file k 0 < 256) (s : ReadingSizes) (at size : ℕ) (later_head later_table later_cells : List ℕ) → Sizes s
+    pub read_stopped : (why : ReadRefusal) (r : Result Reading ReadRefusal) → r ≡ Err why → sizes_answered (Err why) ≡ sizes_for (first_applying (open_rows file)) file
+        → Read file head table cells head table cells (answered r)
+    read_stopped why r q e =
+        subst (λ (a : Result Reading ReadRefusal). Read file head table cells head table cells (answered a)) (sym q)
+        (read_refused (number_of why) _ (sizes_stop (sizes_answered (Err why)) (length head) (length table) (length cells) e (number_some why)) (number_some why) refl)
+
+    pub read_done : (bytes : (k : ℕ) → get_or file k 0 < 256) (s : SizesAnswer) (at size : ℕ) (later_head later_table later_cells : List ℕ) → Sizes s
         → (ltb (length head) s.head_bytes || ltb (length table) s.table_bytes || ltb (length cells) s.cell_numbers) ≡ false → stream_fails file ≡ false
         → later_head ≡ put head 0 (take (s.head_bytes - 0) (drop 0 file))
         → later_table ≡ put table 0 (take (s.head_bytes + s.table_bytes - s.head_bytes) (drop s.head_bytes file))
@@ -139,19 +155,19 @@ module _ (file : List ℕ) where
         let newer_shows = newer_shown file (fields_of file) opened fails in
         let q = o.sizes in
         let long : (ltb (length head) (head_bytes_of (fields_of file)) || ltb (length table) (table_bytes_of (fields_of file)) || ltb (length cells) (cell_count (fields_of file))) ≡ false
-        = ap (λ (k : ReadingSizes). ltb (length head) k.head_bytes || ltb (length table) k.table_bytes || ltb (length cells) k.cell_numbers) (sym q) ∙ short in
-        let hb : s.head_bytes - 0 ≡ head_bytes_of (fields_of file) = omega (arith, ap (λ (k : ReadingSizes). k.head_bytes) q) in
-        let tb : s.head_bytes + s.table_bytes - s.head_bytes ≡ table_bytes_of (fields_of file) = omega (arith, ap (λ (k : ReadingSizes). k.table_bytes) q) in
-        let ha : s.head_bytes ≡ head_bytes_of (fields_of file) = ap (λ (k : ReadingSizes). k.head_bytes) q in
+        = ap (λ (k : SizesAnswer). ltb (length head) k.head_bytes || ltb (length table) k.table_bytes || ltb (length cells) k.cell_numbers) (sym q) ∙ short in
+        let hb : s.head_bytes - 0 ≡ head_bytes_of (fields_of file) = omega (arith, ap (λ (k : SizesAnswer). k.head_bytes) q) in
+        let tb : s.head_bytes + s.table_bytes - s.head_bytes ≡ table_bytes_of (fields_of file) = omega (arith, ap (λ (k : SizesAnswer). k.table_bytes) q) in
+        let ha : s.head_bytes ≡ head_bytes_of (fields_of file) = ap (λ (k : SizesAnswer). k.head_bytes) q in
         record {
           number = number_none (length head) (length table) (length cells) o.never o.outside long fails;
           outcome =
               record {
                 shown = shown_of file (fields_of file);
                 newer_shows = newer_shows;
-                width = ap (λ (k : ReadingSizes). k.width) q;
-                height = ap (λ (k : ReadingSizes). k.height) q;
-                depth = ap (λ (k : ReadingSizes). k.depth) q;
+                width = ap (λ (k : SizesAnswer). k.width) q;
+                height = ap (λ (k : SizesAnswer). k.height) q;
+                depth = ap (λ (k : SizesAnswer). k.depth) q;
                 head_filled = eh ∙ ap (λ (n : ℕ). put head 0 (take n file)) hb;
                 table_filled = et ∙ (λ z. put table 0 (take (tb z) (drop (ha z) file)));
                 cells_filled = ec ∙ ap (λ (r : _). put cells 0 (numbers_of (rows_shown r))) newer_shows;
@@ -224,7 +240,7 @@ rows_filled file t o c = sym (stored_numbers file t) ∙ ap (λ (r : _). numbers
 
 -- ---- what is asked of the buffers
 
-pub long_enough : (head table cells : ℕ) (s : ReadingSizes) → (ltb head s.head_bytes || ltb table s.table_bytes || ltb cells s.cell_numbers) ≡ false
+pub long_enough : (head table cells : ℕ) (s : SizesAnswer) → (ltb head s.head_bytes || ltb table s.table_bytes || ltb cells s.cell_numbers) ≡ false
     → (s.head_bytes ≤ head) × (s.table_bytes ≤ table) × (s.cell_numbers ≤ cells)
 long_enough head table cells s e =
     let p = or_false (ltb head s.head_bytes || ltb table s.table_bytes) (ltb cells s.cell_numbers) e in
@@ -252,16 +268,13 @@ rows_pass file head table cells e = none_of (never_written file) (outside_file f
 profile_there : (file : List ℕ) → outside_file file ≡ false → profile_at_of file + profile_bytes_of file ≤ length file
 profile_there file e = ltb-false (length file) (profile_at_of file + profile_bytes_of file) (outside_parts file e).2
 
-pub profile_inside : (file head table cells later_head later_table later_cells : List ℕ) (r : Reading) → Read file head table cells later_head later_table later_cells r
+pub profile_inside : (file head table cells later_head later_table later_cells : List ℕ) (r : ReadAnswer) → Read file head table cells later_head later_table later_cells r
     → r.profile_at + r.profile_bytes ≤ length file
 profile_inside file head table cells lh lt lc r p = go r.refusal p.number p.outcome
   where
     go : (n : ℕ) → n ≡ first_applying (read_rows file (length head) (length table) (length cells)) → Outcome n file head table cells lh lt lc r → r.profile_at + r.profile_bytes ≤ length file
     go zero e o = omega (arith, o.profile_at_is, o.profile_bytes_is, profile_there file (rows_pass file (length head) (length table) (length cells) e).1)
-    go (suc n) e o = omega (arith, ap (λ (a : Reading). a.profile_at) o.answer, ap (λ (a : Reading). a.profile_bytes) o.answer)
+    go (suc n) e o = omega (arith, ap (λ (a : ReadAnswer). a.profile_at) o.answer, ap (λ (a : ReadAnswer). a.profile_bytes) o.answer)
 
-pub cells_fit : (file : List ℕ) (t : Fields) (s : ReadingSizes) (m : ℕ) → t ≡ fields_of file → s ≡ sizes_for 0 file → s.cell_numbers ≤ m → cell_count t ≤ m
-cells_fit file t s m e q h = subst (λ (u : Fields). cell_count u ≤ m) (sym e) (omega (arith, h, ap (λ (k : ReadingSizes). k.cell_numbers) q))
-
-pub part_is : (at n : ℕ) (file : List ℕ) → take (at + n - at) (drop at file) ≡ take n (drop at file)
-part_is at n file = let e : at + n - at ≡ n = omega arith in rw e
+pub cells_fit : (file : List ℕ) (t : Fields) (s : SizesAnswer) (m : ℕ) → t ≡ fields_of file → s ≡ sizes_for 0 file → s.cell_numbers ≤ m → cell_count t ≤ m
+cells_fit file t s m e q h = subst (λ (u : Fields). cell_count u ≤ m) (sym e) (omega (arith, h, ap (λ (k : SizesAnswer). k.cell_numbers) q))

@@ -1,5 +1,5 @@
 -- The reading of one row: from the tests to the promise.
-use mathlib.Core.Path.{◌≡◌, refl, sym, ap, ◌∙◌}
+use mathlib.Core.Path.{◌≡◌, refl, sym, ap, subst, ◌∙◌}
 use mathlib.Core.Bool.{Bool, true, false, true≢false, not, ◌||◌}
 use mathlib.Core.List.{List, []}
 use Prim.Native.Nat.{ℕ, zero, suc, ◌+◌, ◌-◌, ◌*◌, ◌≤◌, ◌<◌}
@@ -26,9 +26,11 @@ use Rattle.cells.proofs.Loops.{no_elements}
 use Rattle.cells.proofs.RowCodes.{is_filled}
 use Rattle.reader.specs.Numbers.{row_numbers, numbers_each}
 use Rattle.reader.specs.OneRow.{row_outside, head_or_row_outside, numbers_too_many, row_fails, row_rows, ShowsRow, ReadRow}
-use Rattle.reader.specs.Refusals.{is_coded, never_written, head_outside, last_filled, stops}
+use Rattle.std.specs.Prelude.{Result, Err}
+use Rattle.reader.specs.declared.refusal.ReadRefusal.{ReadRefusal}
+use Rattle.reader.specs.Refusals.{number_of, answer_number, is_coded, never_written, head_outside, last_filled, stops}
 use Rattle.reader.specs.Rows.{cell_in, numbers_in}
-use Rattle.reader.proofs.Calls.{height_small, none_of}
+use Rattle.reader.proofs.Calls.{number_some, height_small, none_of}
 use Rattle.reader.proofs.Opens.{HeadInside, head_inside, row_opens, row_tab}
 use Rattle.reader.proofs.PlainRows.{ones_are, bits_fit}
 use Rattle.reader.proofs.Stops.{stops_row, stops_refused}
@@ -181,6 +183,11 @@ module _ (file : List ℕ) (t : Fields) (h : HeadInside file t) (start : ℕ) (c
 
 -- ---- the promise
 
-pub row_refused : (file : List ℕ) (start : ℕ) (cells : List ℕ) (n : ℕ) → n ≡ first_applying (row_rows file start (length cells)) → (n ≡ 0 → ⊥) → ReadRow file start cells cells n
+row_refused : (file : List ℕ) (start : ℕ) (cells : List ℕ) (n : ℕ) → n ≡ first_applying (row_rows file start (length cells)) → (n ≡ 0 → ⊥) → ReadRow file start cells cells n
 row_refused file start cells zero e z = absurd (z refl)
 row_refused file start cells (suc n) e z = record { first = e; outcome = refl }
+
+pub row_stopped : (file : List ℕ) (start : ℕ) (cells : List ℕ) (why : ReadRefusal) (r : Result (Unit {0}) ReadRefusal) → r ≡ Err why
+    → number_of why ≡ first_applying (row_rows file start (length cells)) → ReadRow file start cells cells (answer_number r)
+row_stopped file start cells why r q e =
+    subst (λ (a : Result (Unit {0}) ReadRefusal). ReadRow file start cells cells (answer_number a)) (sym q) (row_refused file start cells (number_of why) e (number_some why))

@@ -8,12 +8,11 @@ use Rattle.format.specs.OneRow.{RowReading, shows_row, refuses_row}
 use Rattle.format.specs.Readers as Readers
 use Rattle.format.specs.Readers.{shows, refuses}
 use Rattle.format.specs.Shown.{Cell, Shown}
-use Rattle.reader.specs.declared.read.Reading.{Reading}
-use Rattle.reader.specs.Answers.{refused_reading, Outcome, Read, ReadInto}
+use Rattle.reader.specs.Answers.{ReadAnswer, refused_reading, Outcome, Read, ReadInto}
 use Rattle.reader.specs.Numbers.{row_numbers, numbers_of}
 use Rattle.reader.specs.OneRow.{RowOutcome, ReadRow}
 
-reading : ℕ → ℕ → ℕ → ℕ → ℕ → ℕ → Reading
+reading : ℕ → ℕ → ℕ → ℕ → ℕ → ℕ → ReadAnswer
 reading refusal width height depth at bytes = record { refusal = refusal; width = width; height = height; depth = depth; profile_at = at; profile_bytes = bytes }
 
 -- what is shown, if anything is
@@ -22,14 +21,14 @@ shown_or other (shows s) = s
 shown_or other (refuses cause) = other
 
 -- an answer and the three buffers that it leaves
-pub record Same (head table cells other_head other_table other_cells : List ℕ) (r s : Reading) : Type 0 where
+pub record Same (head table cells other_head other_table other_cells : List ℕ) (r s : ReadAnswer) : Type 0 where
   pub answers : r ≡ s
   pub heads : head ≡ other_head
   pub tables : table ≡ other_table
   pub cell_numbers_lem : cells ≡ other_cells
 
 module _ (file head table cells later_head later_table later_cells other_head other_table other_cells : List ℕ) where
-  same_outcome : (n : ℕ) (r s : Reading) → r.refusal ≡ n → s.refusal ≡ n → Outcome n file head table cells later_head later_table later_cells r
+  same_outcome : (n : ℕ) (r s : ReadAnswer) → r.refusal ≡ n → s.refusal ≡ n → Outcome n file head table cells later_head later_table later_cells r
       → Outcome n file head table cells other_head other_table other_cells s → Same later_head later_table later_cells other_head other_table other_cells r s
   unfolding reading shown_or
   same_outcome zero r s er es p q =
@@ -55,7 +54,7 @@ module _ (file head table cells later_head later_table later_cells other_head ot
         cell_numbers_lem = p.same_cells ∙ sym q.same_cells;
       }
 
-  pub read_determined : (r s : Reading) → Read file head table cells later_head later_table later_cells r → Read file head table cells other_head other_table other_cells s
+  pub read_determined : (r s : ReadAnswer) → Read file head table cells later_head later_table later_cells r → Read file head table cells other_head other_table other_cells s
       → Same later_head later_table later_cells other_head other_table other_cells r s
   read_determined r s p q =
       let number : s.refusal ≡ r.refusal = q.number ∙ sym p.number in

@@ -10,13 +10,14 @@ use borrow.Author.Tests.{le-ltb, eqb-true, eqb-false}
 use lib.Dec.{ltb, eqb}
 use lib.ListN.{length, get_or, take, drop}
 use lib.Seq.{drop_at, take_at, drop-drop}
-use Rattle.leaves.specs.declared.error.Check.TheVariants.{Passed}
+use Rattle.std.proofs.Common.{Ok, is_some}
 use Rattle.leaves.specs.declared.error.Refusal.TheVariants.{MaskSource, FileTooLarge, BufferTooShort, StreamOverBudget}
 use Rattle.leaves.specs.Formats.{bytes_per_pixel, bits_per_pixel, is_indexed, mask_source}
 use Rattle.leaves.specs.Masks.{bitfields_rows}
 use Rattle.leaves.specs.Put.{put}
 use Rattle.leaves.specs.Refusals.{first_of, profile_mode, dimension_rows, settings_rows, palette_rows, mode_rows, plane_rows}
 use Rattle.leaves.specs.Sizes.{row_stride}
+use Rattle.leaves.specs.Options.{bitfields_in, calibrated_in}
 use Rattle.format.specs.Accepted.{Accepted}
 use Rattle.format.specs.Decode.{Decoded, filled, refused, decode}
 use Rattle.format.specs.Expectation.{expected}
@@ -35,8 +36,7 @@ use Rattle.format.proofs.Passing.{first_parts}
 use Rattle.format.proofs.Pictures.{height_shown_lem, some_cell}
 use Rattle.format.proofs.PlainCells.{length_row}
 use Rattle.format.proofs.Readings.{demand3}
-use Rattle.reader.specs.declared.read.Reading as code
-use Rattle.reader.specs.Answers.{Shows, Outcome, Read}
+use Rattle.reader.specs.Answers.{ReadAnswer, Shows, Outcome, Read}
 use Rattle.reader.specs.Numbers.{numbers_of, head_in, table_in, profile_in, profile_at_of, profile_bytes_of, table_bytes_of}
 use Rattle.reader.specs.Numbers as numbers
 use Rattle.reader.specs.Refusals.{is_coded, never_written, header_outside, masks_outside, rows_outside, outside_file, buffers_too_short, stops, stream_fails}
@@ -78,15 +78,15 @@ pub record Call (i : Input) : Type 0 where
   pub palette_bytes_is : (k : ℕ) → get_or i.palette k 0 < 256
   pub icc_bytes : (k : ℕ) → get_or i.icc k 0 < 256
   pub linked_bytes : (k : ℕ) → get_or i.linked k 0 < 256
-  pub nine_endpoints : length i.options.calibrated_rgb.endpoints ≡ 9
-  pub three_gammas : length i.options.calibrated_rgb.gamma ≡ 3
-  pub passes : first_of (write_rows (limit_in i) i room offset) ≡ Passed
+  pub nine_endpoints : length (calibrated_in i.options).endpoints ≡ 9
+  pub three_gammas : length (calibrated_in i.options).gamma ≡ 3
+  pub passes : first_of (write_rows (limit_in i) i room offset) ≡ Ok tt
 
 pub call_accepted : (i : Input) → Call i → Accepted i
 call_accepted i c = accepted i c.room c.offset c.plane_bytes_is c.palette_bytes_is c.nine_endpoints c.three_gammas c.passes
 
 -- its masks pass their check
-masks_pass : (i : Input) → Call i → i.options.has_bitfields ≡ true → first_of (bitfields_rows i.options.bitfields.bpp i.options.bitfields.masks) ≡ Passed
+masks_pass : (i : Input) → Call i → is_some i.options.bitfields ≡ true → first_of (bitfields_rows (bitfields_in i.options).bpp (bitfields_in i.options).masks) ≡ Ok tt
 unfolding write_rows plan_rows check_rows given_masks_rows
 masks_pass i c m =
     let plan = (first_parts (plan_rows (limit_in i) i) ((buffer_too_short (limit_in i) i c.room c.offset, BufferTooShort) ∷ (stream_over_budget (limit_in i) i, StreamOverBudget) ∷ []) c.passes).0 in
@@ -96,12 +96,12 @@ masks_pass i c m =
     let size = dimension_rows s.width s.height in
     let settings = settings_rows o.limit o.x_pels_per_meter o.y_pels_per_meter in
     let colours = palette_rows (is_indexed s.format) s.has_palette (length i.palette) in
-    let modes = mode_rows o.has_bitfields o.has_calibrated_rgb (profile_mode s.has_linked_icc s.has_icc o.embed_icc) in
+    let modes = mode_rows (is_some o.bitfields) (is_some o.calibrated_rgb) (profile_mode s.has_linked_icc s.has_icc o.embed_icc) in
     let plane = plane_rows s.width s.height s.stride (bytes_per_pixel s.format) (length i.plane) in
     let upto = (first_parts (size ++ settings ++ colours ++ modes ++ given_masks_rows s o) plane call).0 in
     let given = (first_parts (size ++ settings ++ colours ++ modes) (given_masks_rows s o) upto).1 in
-    (first_parts (bitfields_rows o.bitfields.bpp o.bitfields.masks) ((mask_source s.format, MaskSource) ∷ [])
-    (subst (λ (b : Bool). first_of (cond b (bitfields_rows o.bitfields.bpp o.bitfields.masks ++ ((mask_source s.format, MaskSource) ∷ [])) []) ≡ Passed) m given)).0
+    (first_parts (bitfields_rows (bitfields_in o).bpp (bitfields_in o).masks) ((mask_source s.format, MaskSource) ∷ [])
+    (subst (λ (b : Bool). first_of (cond b (bitfields_rows (bitfields_in o).bpp (bitfields_in o).masks ++ ((mask_source s.format, MaskSource) ∷ [])) []) ≡ Ok tt) m given)).0
 
 -- a stream that is shown was read
 decoded : (file : List ℕ) (t : Fields) (d : Decoded) (s : Shown) → streamed file t d ≡ shows s → is_refused d ≡ false
@@ -234,7 +234,7 @@ module _ (i : Input) (call : Call i) where
   -- ---- the theorem
 
   -- what a reading of the file answers and fills in
-  pub record Back (head table cells later_head later_table later_cells : List ℕ) (r : code.Reading) : Type 0 where
+  pub record Back (head table cells later_head later_table later_cells : List ℕ) (r : ReadAnswer) : Type 0 where
     pub refusal : r.refusal ≡ 0
     pub width : r.width ≡ i.source.width
     pub height : r.height ≡ i.source.height
@@ -250,7 +250,7 @@ module _ (i : Input) (call : Call i) where
   shown_is : (s t : Shown) → shows s ≡ shows t → s ≡ t
   shown_is s t e = cc
 
-  finish : (head table cells lh lt lc : List ℕ) (r : code.Reading) → r.refusal ≡ 0 → Shows file head table cells lh lt lc r → Back head table cells lh lt lc r
+  finish : (head table cells lh lt lc : List ℕ) (r : ReadAnswer) → r.refusal ≡ 0 → Shows file head table cells lh lt lc r → Back head table cells lh lt lc r
   unfolding head_in profile_in expected
   finish head table cells lh lt lc r none s =
       let same : s.shown ≡ expected i = shown_is s.shown (expected i) (sym s.newer_shows ∙ (demand3 i a).newer_shows) in
@@ -265,7 +265,7 @@ module _ (i : Input) (call : Call i) where
         profile_back = (λ z. take (s.profile_bytes_is z) (drop (s.profile_at_is z) file)) ∙ profile_read i a;
       }
 
-  pub read_back : (head table cells later_head later_table later_cells : List ℕ) (r : code.Reading) → buffers_too_short (fields_of file) (length head) (length table) (length cells) ≡ false
+  pub read_back : (head table cells later_head later_table later_cells : List ℕ) (r : ReadAnswer) → buffers_too_short (fields_of file) (length head) (length table) (length cells) ≡ false
       → Read file head table cells later_head later_table later_cells r → Back head table cells later_head later_table later_cells r
   read_back head table cells lh lt lc r long p =
       let none : r.refusal ≡ 0 = p.number ∙ sym (number_none file (length head) (length table) (length cells) never_written_lem outside_none long fails_none) in

@@ -9,15 +9,16 @@ use borrow.Author.Tests.{ltb-true, le-ltb, lt-leb, eqb-true, ne_eqb, not-false}
 use lib.Count.{ones_in, count_trailing_zeros}
 use lib.Dec.{ltb, leb, eqb}
 use lib.ListN.{length, get_or}
+use Rattle.std.proofs.Common.{Ok, is_some}
 use Rattle.leaves.specs.declared.image.BmpPixelFormat.{BmpPixelFormat}
 use Rattle.leaves.specs.declared.image.BmpPixelFormat.TheVariants.{Rgba, Rgb24, Bgra, Bgr24, Rgb555, Rgb565, Pal8, Indexed4, Indexed2, Indexed1}
-use Rattle.leaves.specs.declared.error.Check.TheVariants.{Passed}
 use Rattle.leaves.specs.Bytes.{le16, le32}
 use Rattle.leaves.specs.Formats.{bits_per_pixel, is_rgb565}
 use Rattle.leaves.specs.Lists.{cat}
 use Rattle.leaves.specs.Masks.{count, lowest, is_one_run, has_alpha_mask, mask_compression, shares_bit, mask_rows, bitfields_rows}
 use Rattle.leaves.specs.Refusals.{check_number, first_of}
 use Rattle.leaves.specs.Sizes.{has_table, palette_entry_count, clr_used_of}
+use Rattle.leaves.specs.Options.{bitfields_in}
 use Rattle.format.specs.declared.layout.Mode.{Mode}
 use Rattle.format.specs.declared.layout.Mode.TheVariants.{Masked, Calibrated, Profiled, Plain}
 use Rattle.format.specs.Accepted.{Accepted}
@@ -98,14 +99,14 @@ coded_bits f e = coded_cases (λ f. (bits_per_pixel f ≡ 8) ⊎ (bits_per_pixel
 
 kinds : (i : Input) → Accepted i → Kinds (compression_of (limit_in i) i) (depth_in i) i.options.top_down
 unfolding compression_of depth_of rows_compression
-kinds i a = go (stream_used (limit_in i) i) refl i.options.has_bitfields refl
+kinds i a = go (stream_used (limit_in i) i) refl (is_some i.options.bitfields) refl
   where
     Answer : Bool → Bool → Type 0
     Answer s m =
-        Kinds (cond s (cond (eqb (bits_per_pixel i.source.format) 8) 1 2) (cond m (mask_compression i.options.bitfields.masks) (cond (is_rgb565 i.source.format) 3 0)))
-        (cond m i.options.bitfields.bpp (bits_per_pixel i.source.format)) i.options.top_down
+        Kinds (cond s (cond (eqb (bits_per_pixel i.source.format) 8) 1 2) (cond m (mask_compression (bitfields_in i.options).masks) (cond (is_rgb565 i.source.format) 3 0)))
+        (cond m (bitfields_in i.options).bpp (bits_per_pixel i.source.format)) i.options.top_down
 
-    stream : (m : Bool) → i.options.has_bitfields ≡ m → PlannedIn i → Answer true m
+    stream : (m : Bool) → is_some i.options.bitfields ≡ m → PlannedIn i → Answer true m
     stream true q s = absurd (true≢false (sym q ∙ s.unmasked))
     stream false q s = pick (coded_bits i.source.format s.source)
       where
@@ -113,7 +114,7 @@ kinds i a = go (stream_used (limit_in i) i) refl i.options.has_bitfields refl
         pick (inl b) = stream8 (rw b) b s.bottom_up
         pick (inr b) = stream4 (rw b) b s.bottom_up
 
-    masked : (b : Bool) → has_alpha_mask i.options.bitfields.masks ≡ b → i.options.has_bitfields ≡ true → Answer false true
+    masked : (b : Bool) → has_alpha_mask (bitfields_in i.options).masks ≡ b → is_some i.options.bitfields ≡ true → Answer false true
     masked true q m = six (rw q) (a.masks m).depths
     masked false q m = three (rw q) (a.masks m).depths
 
@@ -129,9 +130,9 @@ kinds i a = go (stream_used (limit_in i) i) refl i.options.has_bitfields refl
     rows Indexed2 q = plain refl refl
     rows Indexed1 q = plain refl refl
 
-    go : (s : Bool) → stream_used (limit_in i) i ≡ s → (m : Bool) → i.options.has_bitfields ≡ m → Answer s m
+    go : (s : Bool) → stream_used (limit_in i) i ≡ s → (m : Bool) → is_some i.options.bitfields ≡ m → Answer s m
     go true e m q = stream m q (used_in (limit_in i) i e).planned
-    go false e true q = masked (has_alpha_mask i.options.bitfields.masks) refl q
+    go false e true q = masked (has_alpha_mask (bitfields_in i.options).masks) refl q
     go false e false q = rows i.source.format refl
 
 -- ---- the tests of the kind
@@ -199,7 +200,7 @@ unfolding bitfields_rows cat mask_rows shares_bit
 four_rows d masks = refl
 
 -- masks that the check lets pass
-masks_pass : (d : ℕ) (masks : List ℕ) → (d ≡ 16) ⊎ (d ≡ 32) → first_of (bitfields_rows d masks) ≡ Passed → refused_masks d masks ≡ false
+masks_pass : (d : ℕ) (masks : List ℕ) → (d ≡ 16) ⊎ (d ≡ 32) → first_of (bitfields_rows d masks) ≡ Ok tt → refused_masks d masks ≡ false
 masks_pass d masks deep e = rw (sym (behind_six d masks deep) ∙ ap check_number e)
 
 rgb565_pass : refused_masks 16 (0xF800 ∷ 0x07E0 ∷ 0x001F ∷ 0 ∷ []) ≡ false
@@ -213,31 +214,31 @@ four_565 : (file : List ℕ) → ColourMasks file 0xF800 0x07E0 0x001F → masks
 unfolding masks_of
 four_565 file r = rw (r.red_mask, r.green_mask, r.blue_mask)
 
-module _ (i : Input) (a : Accepted i) (checks : i.options.has_bitfields ≡ true → first_of (bitfields_rows i.options.bitfields.bpp i.options.bitfields.masks) ≡ Passed) where
+module _ (i : Input) (a : Accepted i) (checks : is_some i.options.bitfields ≡ true → first_of (bitfields_rows (bitfields_in i.options).bpp (bitfields_in i.options).masks) ≡ Ok tt) where
   abbrev file : List ℕ
   file = file_of (limit_in i) i
 
-  masks_four : (c : ℕ) → i.options.has_bitfields ≡ true → c ≡ mask_compression i.options.bitfields.masks
-      → masks_of file c ≡ get_or i.options.bitfields.masks 0 0 ∷ get_or i.options.bitfields.masks 1 0 ∷ get_or i.options.bitfields.masks 2 0 ∷ get_or i.options.bitfields.masks 3 0 ∷ []
+  masks_four : (c : ℕ) → is_some i.options.bitfields ≡ true → c ≡ mask_compression (bitfields_in i.options).masks
+      → masks_of file c ≡ get_or (bitfields_in i.options).masks 0 0 ∷ get_or (bitfields_in i.options).masks 1 0 ∷ get_or (bitfields_in i.options).masks 2 0 ∷ get_or (bitfields_in i.options).masks 3 0 ∷ []
   unfolding masks_of
   masks_four c m e =
       let r = masks_read i a m in
       rw (r.red_mask, r.green_mask, r.blue_mask, e)
-      (ap (λ (k : ℕ). get_or i.options.bitfields.masks 0 0 ∷ get_or i.options.bitfields.masks 1 0 ∷ get_or i.options.bitfields.masks 2 0 ∷ k ∷ []) (go (has_alpha_mask i.options.bitfields.masks) refl))
+      (ap (λ (k : ℕ). get_or (bitfields_in i.options).masks 0 0 ∷ get_or (bitfields_in i.options).masks 1 0 ∷ get_or (bitfields_in i.options).masks 2 0 ∷ k ∷ []) (go (has_alpha_mask (bitfields_in i.options).masks) refl))
     where
-      go : (b : Bool) → has_alpha_mask i.options.bitfields.masks ≡ b → cond (eqb (cond b 6 3) 6) (dword_at file 66) 0 ≡ get_or i.options.bitfields.masks 3 0
+      go : (b : Bool) → has_alpha_mask (bitfields_in i.options).masks ≡ b → cond (eqb (cond b 6 3) 6) (dword_at file 66) 0 ≡ get_or (bitfields_in i.options).masks 3 0
       go true q = alpha_read i a m q
-      go false q = no_alpha i.options.bitfields.masks q
+      go false q = no_alpha (bitfields_in i.options).masks q
 
   masks_written : (eqb (compression_of (limit_in i) i) 3 || eqb (compression_of (limit_in i) i) 6) ≡ true → refused_masks (depth_in i) (masks_of file (compression_of (limit_in i) i)) ≡ false
   unfolding compression_of depth_of rows_compression
-  masks_written = go (stream_used (limit_in i) i) refl i.options.has_bitfields refl
+  masks_written = go (stream_used (limit_in i) i) refl (is_some i.options.bitfields) refl
     where
       C : Bool → Bool → ℕ
-      C s m = cond s (cond (eqb (bits_per_pixel i.source.format) 8) 1 2) (cond m (mask_compression i.options.bitfields.masks) (cond (is_rgb565 i.source.format) 3 0))
+      C s m = cond s (cond (eqb (bits_per_pixel i.source.format) 8) 1 2) (cond m (mask_compression (bitfields_in i.options).masks) (cond (is_rgb565 i.source.format) 3 0))
 
       D : Bool → ℕ
-      D m = cond m i.options.bitfields.bpp (bits_per_pixel i.source.format)
+      D m = cond m (bitfields_in i.options).bpp (bits_per_pixel i.source.format)
 
       none : (b : Bool) → (eqb (cond b 1 2) 3 || eqb (cond b 1 2) 6) ≡ true → ⊥
       none true e = false≢true e
@@ -255,11 +256,11 @@ module _ (i : Input) (a : Accepted i) (checks : i.options.has_bitfields ≡ true
       rows Indexed2 q e = absurd (false≢true e)
       rows Indexed1 q e = absurd (false≢true e)
 
-      go : (s : Bool) → stream_used (limit_in i) i ≡ s → (m : Bool) → i.options.has_bitfields ≡ m → (eqb (C s m) 3 || eqb (C s m) 6) ≡ true → refused_masks (D m) (masks_of file (C s m)) ≡ false
+      go : (s : Bool) → stream_used (limit_in i) i ≡ s → (m : Bool) → is_some i.options.bitfields ≡ m → (eqb (C s m) 3 || eqb (C s m) 6) ≡ true → refused_masks (D m) (masks_of file (C s m)) ≡ false
       go true p m q e = absurd (none (eqb (bits_per_pixel i.source.format) 8) e)
       go false p true q e =
-          ap (refused_masks i.options.bitfields.bpp) (masks_four (mask_compression i.options.bitfields.masks) q refl)
-          ∙ masks_pass i.options.bitfields.bpp _ (a.masks q).depths (ap first_of (sym (four_rows i.options.bitfields.bpp i.options.bitfields.masks)) ∙ checks q)
+          ap (refused_masks (bitfields_in i.options).bpp) (masks_four (mask_compression (bitfields_in i.options).masks) q refl)
+          ∙ masks_pass (bitfields_in i.options).bpp _ (a.masks q).depths (ap first_of (sym (four_rows (bitfields_in i.options).bpp (bitfields_in i.options).masks)) ∙ checks q)
       go false p false q e = rows i.source.format refl e
 
   -- 17 does not apply

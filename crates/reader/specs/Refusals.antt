@@ -1,9 +1,11 @@
 -- Document 02, A.1: the numbers 17, 18, 15 and 19, one predicate each in its own words, and the first that applies.
-use Rattle.std.specs.Prelude.{ℕ, zero, suc, ◌+◌, ◌-◌, ◌*◌, ◌^◌, Bool, true, false, not, cond, ◌&&◌, ◌||◌, List, [], ◌∷◌, ltb, leb, eqb, length, drop}
+use Rattle.std.specs.Prelude.{ℕ, zero, suc, ◌+◌, ◌-◌, ◌*◌, ◌^◌, Bool, true, false, not, cond, ◌&&◌, ◌||◌, List, [], ◌∷◌, ltb, leb, eqb, length, drop, ⊤, Result, Ok, Err}
 use Rattle.leaves.specs.Masks.{bitfields_rows}
 use Rattle.leaves.specs.Refusals.{first_number}
 use Rattle.format.specs.Decode.{data_read}
 use Rattle.format.specs.Readers.{Fields, fields_of, word_at, dword_at, shown_height, row_length}
+use Rattle.reader.specs.declared.refusal.ReadRefusal.{ReadRefusal}
+use Rattle.reader.specs.declared.refusal.ReadRefusal.TheVariants.{NeverWritten, OutsideFile, BufferTooShort, StreamFails}
 use Rattle.reader.specs.Numbers.{head_bytes_of, table_bytes_of, cell_count, profile_bytes_of, profile_at_of}
 
 -- ---- 17: what the writer never writes. "each test made only where every field it needs lies whole in the file": in a file of n bytes
@@ -151,7 +153,18 @@ stream_fails file =
     let t = fields_of file in
     is_coded t.compression && stops t.depth t.width (shown_height t - 1) t.width (drop t.offset file) 0
 
--- ---- "The order is 17, 18, 15, 19"
+-- ---- the numbers, and "The order is 17, 18, 15, 19"
+
+abbrev pub number_of : ReadRefusal → ℕ
+number_of NeverWritten = 17
+number_of OutsideFile = 18
+number_of BufferTooShort = 15
+number_of StreamFails = 19
+
+-- of an answer that is no more than that: 0 where nothing is refused
+abbrev pub answer_number : Result ⊤ ReadRefusal → ℕ
+answer_number (Ok _) = 0
+answer_number (Err why) = number_of why
 
 -- 17 and 18, of the file alone
 unfoldable pub open_rows : List ℕ → List (Bool × ℕ)

@@ -4,9 +4,10 @@ ghost use Rattle.leaves.specs.Refusals.{first_applying};
 ghost use Rattle.format.specs.Readers.{fields_of, dword_at};
 ghost use Rattle.reader.specs.Fields.{fields_in};
 ghost use Rattle.reader.specs.Numbers.{has_profile, profile_bytes_of, profile_at_of};
-ghost use Rattle.reader.specs.Refusals.{strange_sizes, strange_kind, strange_masks, masks_end, never_written, head_outside, outside_file, is_coded, open_rows};
+ghost use Rattle.reader.specs.Refusals.{strange_sizes, strange_kind, strange_masks, masks_end, never_written, head_outside, outside_file, is_coded, answer_number, open_rows};
 
-use crate::fields::{HeadFields, dword_at, full_table, shown_height, table_count, word_at};
+use crate::fields::{HeadFields, dword_at, full_table, word_at};
+use crate::refusal::ReadRefusal;
 use leaves::bitfields::validate;
 use leaves::types::{
     BI_ALPHABITFIELDS, BI_BITFIELDS, BI_RGB, BI_RLE4, BI_RLE8, BITMAPINFOHEADER_SIZE,
@@ -99,8 +100,7 @@ fn strange_masks(file: &[u8], t: HeadFields) -> bool
     let green = dword_at(file, 58);
     let blue = dword_at(file, 62);
     let alpha = alpha_mask(file, c);
-    let check = validate(t.depth, [red, green, blue, alpha]);
-    check.number() != 0
+    validate(t.depth, [red, green, blue, alpha]).is_err()
 }
 
 // 17.
@@ -154,7 +154,7 @@ pub(crate) fn head_outside(n: usize, t: HeadFields) -> bool
 {
     let c = t.compression;
     let head = 14 + t.header_size as usize;
-    let table = 4 * table_count(t) as usize;
+    let table = 4 * t.table_count() as usize;
     (n < 54) | (n < head) | has_masks(c) & (n < masks_end(c)) | (n < head + table)
 }
 
@@ -168,22 +168,22 @@ fn outside_file(file: &[u8], t: HeadFields) -> bool
     if head_outside(n, t) {
         return true;
     }
-    let rows = t.offset as usize + shown_height(t) as usize * row_stride(t.width, t.depth);
+    let rows = t.offset as usize + t.shown_height() as usize * row_stride(t.width, t.depth);
     let profile = profile_bytes(file, t);
     let profile_end = profile_at(file, profile) + profile as usize;
     !is_coded(t.compression) & (n < rows) | (n < profile_end)
 }
 
-// 17, 18 or 0.
-pub(crate) fn open_number(file: &[u8], t: HeadFields) -> u32
+// 17 and 18.
+pub(crate) fn check_open(file: &[u8], t: HeadFields) -> Result<(), ReadRefusal>
     requires { fields_in t ≡ fields_of file.now }
-    ensures { result ≡ first_applying (open_rows file.now) }
+    ensures { answer_number result ≡ first_applying (open_rows file.now) }
 {
     if never_written(file, t) {
-        return 17;
+        return Err(ReadRefusal::NeverWritten);
     }
     if outside_file(file, t) {
-        return 18;
+        return Err(ReadRefusal::OutsideFile);
     }
-    0
+    Ok(())
 }

@@ -53,23 +53,6 @@ pub(crate) fn fields_of(file: &[u8]) -> HeadFields
     }
 }
 
-// A negative height means that the top row is stored first.
-pub(crate) fn top_first(t: HeadFields) -> bool
-    ensures { result ≡ top_first (fields_in t) }
-{
-    t.height >= 0x8000_0000
-}
-
-// The height's magnitude.
-pub(crate) fn shown_height(t: HeadFields) -> u32
-    ensures { result ≡ shown_height (fields_in t) }
-{
-    if t.height >= 0x8000_0000 {
-        return 0xFFFF_FFFF - t.height + 1;
-    }
-    t.height
-}
-
 // 2^depth for the depths that have a colour table, and 0 for the others.
 pub(crate) fn full_table(depth: u16) -> u32
     ensures { result ≡ cond (leb depth 8) (2 ^ depth) 0 }
@@ -80,14 +63,33 @@ pub(crate) fn full_table(depth: u16) -> u32
     1u32 << depth as u32
 }
 
-pub(crate) fn table_count(t: HeadFields) -> u32
-    ensures { result ≡ table_count (fields_in t) }
-{
-    if t.depth > 8 {
-        return 0;
+impl HeadFields {
+    // A negative height means that the top row is stored first.
+    pub(crate) fn top_first(self) -> bool
+        ensures { result ≡ top_first (fields_in self) }
+    {
+        self.height >= 0x8000_0000
     }
-    if t.colours == 0 {
-        return full_table(t.depth);
+
+    // The height's magnitude.
+    pub(crate) fn shown_height(self) -> u32
+        ensures { result ≡ shown_height (fields_in self) }
+    {
+        if self.height >= 0x8000_0000 {
+            return 0xFFFF_FFFF - self.height + 1;
+        }
+        self.height
     }
-    t.colours
+
+    pub(crate) fn table_count(self) -> u32
+        ensures { result ≡ table_count (fields_in self) }
+    {
+        if self.depth > 8 {
+            return 0;
+        }
+        if self.colours == 0 {
+            return full_table(self.depth);
+        }
+        self.colours
+    }
 }

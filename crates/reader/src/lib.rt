@@ -5,4 +5,5 @@ pub mod checks;
 pub mod fields;
 pub mod picture;
 pub mod read;
+pub mod refusal;
 pub mod row;

@@ -13,7 +13,7 @@ ghost use Rattle.cells.specs.Streams.{is_refused, cells_in};
 ghost use Rattle.reader.specs.Rows.{numbers_in, plain_numbers, stream_numbers, WrittenKind};
 
 use crate::checks::alpha_mask;
-use crate::fields::{HeadFields, dword_at, shown_height, top_first};
+use crate::fields::{HeadFields, dword_at};
 use cells::colours::{Channels, channel_of, put_bytes, put_words};
 use cells::indices::put_indices;
 use cells::stream::fill_row;
@@ -139,14 +139,12 @@ pub(crate) fn fill_rows(file: &[u8], t: HeadFields, cells: &mut [u32])
     requires t_in_bounds { shown_height (fields_in t) * (t.width * numbers_each (fields_in t)) ≤ length cells.old }
     ensures { cells.new ≡ put cells.old 0 (plain_numbers file.now (fields_in t)) }
 {
-    let height = shown_height(t) as usize;
+    let height = t.shown_height() as usize;
     let stride = row_stride(t.width, t.depth);
     let numbers = t.width as usize * numbers_each(t.depth);
     let channels = channels_of(file, t.compression);
-    let top = top_first(t);
-    let mut y = 0;
-    let mut to = 0;
-    while y < height {
+    let top = t.top_first();
+    for y in 0..height {
         let stored = stored_at(top, height, y);
         put_row(
             file,
@@ -154,10 +152,8 @@ pub(crate) fn fill_rows(file: &[u8], t: HeadFields, cells: &mut [u32])
             t,
             channels,
             cells,
-            to,
+            y * numbers,
         );
-        to += numbers;
-        y += 1;
     }
 }
 

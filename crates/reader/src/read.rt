@@ -3,21 +3,20 @@ ghost use Rattle.std.specs.Prelude.{◌≡◌, false, ◌≤◌, length};
 ghost use Rattle.leaves.specs.Put.{put};
 ghost use Rattle.leaves.specs.Refusals.{first_applying};
 ghost use Rattle.format.specs.Readers.{fields_of};
-ghost use Rattle.reader.specs.Answers.{sizes_for, refused_reading, rows_in, Read, ReadInto};
+ghost use Rattle.reader.specs.Answers.{sizes_answered, sizes_for, answered, rows_in, Read, ReadInto};
 ghost use Rattle.reader.specs.Fields.{fields_in};
 ghost use Rattle.reader.specs.Numbers.{numbers_of, cell_count};
 ghost use Rattle.reader.specs.Refusals.{never_written, outside_file, stream_fails, open_rows};
 
-use crate::checks::{is_coded, open_number, profile_at, profile_bytes};
-use crate::fields::{HeadFields, fields_of, shown_height, table_count};
+use crate::checks::{check_open, is_coded, profile_at, profile_bytes};
+use crate::fields::{HeadFields, fields_of};
 use crate::picture::{fill_rows, fill_stream, numbers_each};
+use crate::refusal::ReadRefusal;
 use cells::stream::stream_fails;
 use leaves::buffer::put_slice;
 
 #[derive(Clone, Copy)]
 pub struct Reading {
-    // 0, or 17, 18, 15 or 19; then all else is 0.
-    pub refusal: u32,
     pub width: u32,
     pub height: u32,
     pub depth: u32,
@@ -29,8 +28,6 @@ pub struct Reading {
 // What the three lent buffers must have.
 #[derive(Clone, Copy)]
 pub struct ReadingSizes {
-    // 0, 17 or 18; then all else is 0.
-    pub refusal: u32,
     pub width: u32,
     pub height: u32,
     pub depth: u32,
@@ -39,52 +36,27 @@ pub struct ReadingSizes {
     pub cell_numbers: usize,
 }
 
-fn sizes_of(file: &[u8], t: HeadFields) -> ReadingSizes
+fn sizes_of(file: &[u8], t: HeadFields) -> Result<ReadingSizes, ReadRefusal>
     requires { fields_in t ≡ fields_of file.now }
-    ensures { result ≡ sizes_for (first_applying (open_rows file.now)) file.now }
+    ensures { sizes_answered result ≡ sizes_for (first_applying (open_rows file.now)) file.now }
 {
-    let refusal = open_number(file, t);
-    if refusal != 0 {
-        return ReadingSizes {
-            refusal,
-            width: 0,
-            height: 0,
-            depth: 0,
-            head_bytes: 0,
-            table_bytes: 0,
-            cell_numbers: 0,
-        };
-    }
-    let height = shown_height(t);
-    ReadingSizes {
-        refusal: 0,
+    check_open(file, t)?;
+    let height = t.shown_height();
+    Ok(ReadingSizes {
         width: t.width,
         height,
         depth: t.depth as u32,
         head_bytes: 14 + t.header_size as usize,
-        table_bytes: 4 * table_count(t) as usize,
+        table_bytes: 4 * t.table_count() as usize,
         cell_numbers: t.width as usize * height as usize * numbers_each(t.depth),
-    }
+    })
 }
 
 // How long the buffers must be that a reading is lent.
-pub fn read_sizes(file: &[u8]) -> ReadingSizes
-    ensures { result ≡ sizes_for (first_applying (open_rows file.now)) file.now }
+pub fn read_sizes(file: &[u8]) -> Result<ReadingSizes, ReadRefusal>
+    ensures { sizes_answered result ≡ sizes_for (first_applying (open_rows file.now)) file.now }
 {
     sizes_of(file, fields_of(file))
-}
-
-fn refused(refusal: u32) -> Reading
-    ensures { result ≡ refused_reading refusal }
-{
-    Reading {
-        refusal,
-        width: 0,
-        height: 0,
-        depth: 0,
-        profile_at: 0,
-        profile_bytes: 0,
-    }
 }
 
 // Fills in the cells of a file that no number refuses.
@@ -102,7 +74,7 @@ fn fill_cells(file: &[u8], t: HeadFields, cells: &mut [u32])
             t.offset as usize,
             t.depth,
             t.width as usize,
-            shown_height(t) as usize,
+            t.shown_height() as usize,
             cells,
         );
         return;
@@ -125,47 +97,49 @@ fn fails(file: &[u8], t: HeadFields) -> bool
         t.offset as usize,
         t.depth,
         t.width as usize,
-        shown_height(t) as usize,
+        t.shown_height() as usize,
     )
 }
 
 // Reads the file: head, table and cells go into the lent buffers, and the answer says the size, the depth and where the
 // profile lies. A refusal changes nothing.
-pub fn read(file: &[u8], head: &mut [u8], table: &mut [u8], cells: &mut [u32]) -> Reading
-    ensures { Read file.now head.old table.old cells.old head.new table.new cells.new result }
+pub fn read(
+    file: &[u8],
+    head: &mut [u8],
+    table: &mut [u8],
+    cells: &mut [u32],
+) -> Result<Reading, ReadRefusal>
+    ensures { Read file.now head.old table.old cells.old head.new table.new cells.new (answered result) }
 {
     let t = fields_of(file);
-    let sizes = sizes_of(file, t);
-    if sizes.refusal != 0 {
-        return refused(sizes.refusal);
-    }
+    let sizes = sizes_of(file, t)?;
     let head_bytes = sizes.head_bytes;
     let table_bytes = sizes.table_bytes;
     if (head.len() < head_bytes)
         | (table.len() < table_bytes)
         | (cells.len() < sizes.cell_numbers)
     {
-        return refused(15);
+        return Err(ReadRefusal::BufferTooShort);
     }
     if fails(file, t) {
-        return refused(19);
+        return Err(ReadRefusal::StreamFails);
     }
     put_slice(head, 0, &file[0..head_bytes]);
     let table_end = head_bytes + table_bytes;
     put_slice(table, 0, &file[head_bytes..table_end]);
     fill_cells(file, t, cells);
     let profile = profile_bytes(file, t);
-    Reading {
-        refusal: 0,
+    Ok(Reading {
         width: sizes.width,
         height: sizes.height,
         depth: sizes.depth,
         profile_at: profile_at(file, profile),
         profile_bytes: profile as usize,
-    }
+    })
 }
 
-// The same, with the answer through references, and the profile as the part of the file that holds it.
+// The same, with the answer through references, 0 or the refusal's number first, and the profile as the part of the file
+// that holds it.
 pub fn read_into<'a>(
     file: &'a [u8],
     head: &mut [u8],
@@ -178,12 +152,21 @@ pub fn read_into<'a>(
 ) -> &'a [u8]
     ensures { ReadInto file.now head.old table.old cells.old head.new table.new cells.new number.new width.new height.new depth.new result.now }
 {
-    let reading = read(file, head, table, cells);
-    *number = reading.refusal;
-    *width = reading.width;
-    *height = reading.height;
-    *depth = reading.depth;
-    let start = reading.profile_at;
-    let end = start + reading.profile_bytes;
-    &file[start..end]
+    match read(file, head, table, cells) {
+        Ok(reading) => {
+            *number = 0;
+            *width = reading.width;
+            *height = reading.height;
+            *depth = reading.depth;
+            let start = reading.profile_at;
+            &file[start..start + reading.profile_bytes]
+        }
+        Err(why) => {
+            *number = why.number();
+            *width = 0;
+            *height = 0;
+            *depth = 0;
+            &file[0..0]
+        }
+    }
 }

@@ -4,11 +4,12 @@ ghost use Rattle.leaves.specs.Refusals.{first_applying};
 ghost use Rattle.format.specs.Readers.{fields_of};
 ghost use Rattle.reader.specs.Fields.{fields_in};
 ghost use Rattle.reader.specs.OneRow.{row_outside, row_fails, row_rows, ShowsRow, ReadRow};
-ghost use Rattle.reader.specs.Refusals.{never_written, head_outside};
+ghost use Rattle.reader.specs.Refusals.{answer_number, never_written, head_outside};
 
 use crate::checks::{head_outside, is_coded, never_written};
 use crate::fields::{HeadFields, fields_of};
 use crate::picture::{channels_of, numbers_each, put_row};
+use crate::refusal::ReadRefusal;
 use cells::stream::{fill_row, stream_fails};
 use leaves::types::row_stride;
 
@@ -42,25 +43,25 @@ fn row_fails(file: &[u8], t: HeadFields, start: usize) -> bool
     stream_fails(file, start, t.depth, t.width as usize, 1)
 }
 
-// 17, 18, 15, 19 or 0, with room for so many numbers.
-fn row_number(file: &[u8], t: HeadFields, start: usize, cells: usize) -> u32
+// 17, 18, 15 and 19, with room for so many numbers.
+fn check_row(file: &[u8], t: HeadFields, start: usize, cells: usize) -> Result<(), ReadRefusal>
     requires { fields_in t ≡ fields_of file.now }
-    ensures { result ≡ first_applying (row_rows file.now start cells) }
+    ensures { answer_number result ≡ first_applying (row_rows file.now start cells) }
 {
     if never_written(file, t) {
-        return 17;
+        return Err(ReadRefusal::NeverWritten);
     }
     let n = file.len();
     if head_outside(n, t) | row_outside(n, t, start) {
-        return 18;
+        return Err(ReadRefusal::OutsideFile);
     }
     if cells < t.width as usize * numbers_each(t.depth) {
-        return 15;
+        return Err(ReadRefusal::BufferTooShort);
     }
     if row_fails(file, t, start) {
-        return 19;
+        return Err(ReadRefusal::StreamFails);
     }
-    0
+    Ok(())
 }
 
 // Fills in the numbers of a row that no number refuses.
@@ -76,17 +77,13 @@ fn fill_one(file: &[u8], t: HeadFields, start: usize, cells: &mut [u32])
     put_row(file, start, t, channels_of(file, t.compression), cells, 0);
 }
 
-// Reads the row that begins at `start`, wherever in the file that is, into the lent numbers, and answers 0, or 17, 18, 15
-// or 19. A refusal changes nothing.
-pub fn read_row(file: &[u8], start: u64, cells: &mut [u32]) -> u32
-    ensures { ReadRow file.now start cells.old cells.new result }
+// Reads the row that begins at `start`, wherever in the file that is, into the lent numbers. A refusal changes nothing.
+pub fn read_row(file: &[u8], start: u64, cells: &mut [u32]) -> Result<(), ReadRefusal>
+    ensures { ReadRow file.now start cells.old cells.new (answer_number result) }
 {
     let t = fields_of(file);
     let from = start as usize;
-    let refusal = row_number(file, t, from, cells.len());
-    if refusal != 0 {
-        return refusal;
-    }
+    check_row(file, t, from, cells.len())?;
     fill_one(file, t, from, cells);
-    0
+    Ok(())
 }

@@ -7,6 +7,7 @@ use native.Mathlib.Omega.{arith}
 use lib.Dec.{eqb}
 use lib.ListN.{length, take, drop, length-append, take-append-drop}
 use lib.Seq.{take_at, drop_at}
+use Rattle.std.proofs.Common.{is_some}
 use Rattle.leaves.specs.declared.encoder.EncodedBmpFormat.TheVariants.{Rle8, Rle4, Bitfields, AlphaBitfields}
 use Rattle.leaves.specs.declared.image.BmpPixelFormat.{BmpPixelFormat}
 use Rattle.leaves.specs.declared.image.BmpPixelFormat.TheVariants as source
@@ -14,6 +15,7 @@ use Rattle.leaves.specs.Bytes.{le32}
 use Rattle.leaves.specs.Formats.{bits_per_pixel, plain_token}
 use Rattle.leaves.specs.Masks.{has_alpha_mask}
 use Rattle.leaves.specs.Put.{put}
+use Rattle.leaves.specs.Options.{bitfields_in}
 use Rattle.format.specs.declared.layout.Mode.{Mode}
 use Rattle.format.specs.File.{mode_in, raw_bytes, head_bytes_of, tail_of, stream_of, stream_used, stored_rows_of, pixels, compression_of, image_size_of, x_pels_in, y_pels_in, file_size_of, file_of, plain_size_of, format_of}
 use Rattle.format.specs.Input.{Input}
@@ -119,15 +121,15 @@ module _ (i : Input) (ok : Typed i) (k : Checked i) where
 
     filled_file : filled_in_of (format_of limit i) own_file ≡ file_with limit i (image_size_of limit i) 2835 2835
     unfolding format_of rows_format
-    filled_file = go (stream_used limit i) i.options.has_bitfields refl refl
+    filled_file = go (stream_used limit i) (is_some i.options.bitfields) refl refl
       where
-        go : (u m : Bool) → stream_used limit i ≡ u → i.options.has_bitfields ≡ m
-            → cond (is_rle_or_masks (cond u (cond (eqb (bits_per_pixel i.source.format) 8) Rle8 Rle4) (cond m (mask_format i.options.bitfields.masks) (plain_token i.source.format))))
+        go : (u m : Bool) → stream_used limit i ≡ u → is_some i.options.bitfields ≡ m
+            → cond (is_rle_or_masks (cond u (cond (eqb (bits_per_pixel i.source.format) 8) Rle8 Rle4) (cond m (mask_format (bitfields_in i.options).masks) (plain_token i.source.format))))
             (with_image_size own_file) own_file
             ≡ file_with limit i (image_size_of limit i) 2835 2835
         go true m e q = rw (stream_format (eqb (bits_per_pixel i.source.format) 8)) (filled_in (stream_compression limit i e) (planned_header i (used_in limit i e).planned))
         go false true e q =
-            rw (mask_format_lem (has_alpha_mask i.options.bitfields.masks))
+            rw (mask_format_lem (has_alpha_mask (bitfields_in i.options).masks))
             (filled_in (mask_compression_lem limit i e q) (ap (λ (mode : Mode). header_size_of mode i.source.format) (mask_mode i q)))
         go false false e q = rw (plain_format i.source.format) (ap (λ (n : ℕ). file_with limit i n 2835 2835) (sym (other_size limit i (rows_long i k) e q)))
 

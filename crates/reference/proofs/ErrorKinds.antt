@@ -2,11 +2,10 @@
 use mathlib.Core.Path.{◌≡◌, refl, ap, subst}
 use mathlib.Core.List.{List, [], ◌∷◌, map}
 use Prim.Native.Nat.{ℕ}
-use Rattle.leaves.specs.declared.error.Check.{Check}
-use Rattle.leaves.specs.declared.error.Check.TheVariants.{Passed, Refused}
+use Rattle.std.proofs.Common.{Ok, Err}
 use Rattle.leaves.specs.declared.error.Refusal.{Refusal}
 use Rattle.leaves.specs.declared.error.Refusal.TheVariants.{ZeroDimension, PaletteMissing, SeveralModes, MaskDepth, MaskAboveDepth, MaskNotOneRun, MaskOverlap, NoColourMask, MaskSource, PlaneTooShort, StrideTooShort, FileTooLarge, StreamOverBudget}
-use Rattle.leaves.specs.Refusals.{number_of}
+use Rattle.leaves.specs.Refusals.{number_of, Check}
 use Rattle.leaves.proofs.FirstOf.{check_determined}
 use Rattle.reference.specs.Rust.{Error, zero_dimension, requires_palette, mutually_exclusive, bitfields_bpp, mask_exceeds, mask_not_contiguous, mask_overlaps, no_colour_mask, bitfields_source, plane_truncated, stride_below_row, pixel_array_overflows, file_overflows, over_limit, rle_over_limit, not_addressable, Kind, kind_of, Option, some, none}
 use Rattle.reference.specs.Compared.{error_number, rust_kind}
@@ -45,19 +44,19 @@ kinds_hold = refl
 
 -- a check does not both pass and refuse
 abbrev Passes : Check → Type 0
-Passes Passed = Unit {0}
-Passes (Refused w) = ⊥
+Passes (Ok passed) = Unit {0}
+Passes (Err w) = ⊥
 
 abbrev kind_in : Check → Option Kind
-kind_in Passed = none
-kind_in (Refused why) = rust_kind why
+kind_in (Ok passed) = none
+kind_in (Err why) = rust_kind why
 
 -- an Err of a row's number is of that row's kind
 pub kind_is : (e : Error) (why : Refusal) → error_number e ≡ number_of why → some (kind_of e) ≡ rust_kind why
 kind_is e why n = go e n
   where
     in_row : (row : Refusal) → number_of row ≡ number_of why → rust_kind row ≡ rust_kind why
-    in_row row q = ap kind_in (check_determined (Refused row) (Refused why) q)
+    in_row row q = ap kind_in (check_determined (Err row) (Err why) q)
 
     go : (e : Error) → error_number e ≡ number_of why → some (kind_of e) ≡ rust_kind why
     go zero_dimension q = in_row ZeroDimension q
@@ -75,4 +74,4 @@ kind_is e why n = go e n
     go file_overflows q = in_row FileTooLarge q
     go over_limit q = in_row FileTooLarge q
     go rle_over_limit q = in_row StreamOverBudget q
-    go not_addressable q = absurd (subst Passes (check_determined Passed (Refused why) q) tt)
+    go not_addressable q = absurd (subst Passes (check_determined (Ok tt) (Err why) q) tt)

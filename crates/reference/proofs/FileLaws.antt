@@ -10,6 +10,7 @@ use borrow.Author.Tests.{lt-ltb, le-ltb, ltb-true, ltb-false, leb-true, leb-fals
 use lib.Dec.{eqb, ltb, leb}
 use lib.ListN.{length, take, length-append}
 use lib.Seq.{take-append_seam}
+use Rattle.std.proofs.Common.{is_some}
 use Rattle.leaves.specs.declared.image.BmpPixelFormat.{BmpPixelFormat}
 use Rattle.leaves.specs.declared.image.BmpPixelFormat.TheVariants as source
 use Rattle.leaves.specs.declared.encoder.EncodedBmpFormat.TheVariants as written
@@ -17,6 +18,7 @@ use Rattle.leaves.specs.Formats.{bytes_per_pixel, bits_per_pixel, is_indexed, is
 use Rattle.leaves.specs.Sizes.{clr_used_of}
 use Rattle.leaves.proofs.ListLaws.{cat_ext}
 use Rattle.leaves.proofs.Tests.{and_both, and_first, and_second}
+use Rattle.leaves.specs.Options.{bitfields_in}
 use Rattle.rows.specs.RleCodes.{row_codes}
 use Rattle.rows.specs.StoredRows as rows
 use Rattle.rows.specs.Stream.{end_mark, stream_row, stream}
@@ -126,8 +128,8 @@ coded_format Rle4 d e = rw e
 plain_format : (limit : ℕ) (i : Input) → stream_used limit i ≡ false → format_in (mode_in i) i ≡ format_of limit i
 unfolding format_of rows_format
 plain_format limit i e =
-    let masks = mask_format i.options.bitfields.masks in
-    rw e (ap (λ b. cond b masks (plain_token i.source.format)) (sym (given_mode i.source i.options)) ∙ ap (cond i.options.has_bitfields masks) (tables i.source.format).token)
+    let masks = mask_format (bitfields_in i.options).masks in
+    rw e (ap (λ b. cond b masks (plain_token i.source.format)) (sym (given_mode i.source i.options)) ∙ ap (cond (is_some i.options.bitfields) masks) (tables i.source.format).token)
 
 -- ---- writing
 

@@ -2,10 +2,9 @@
 use mathlib.Core.Path.{◌≡◌, refl, sym, ap, ◌∙◌, subst}
 use mathlib.Core.Bool.{Bool, true, false}
 use mathlib.Core.List.{List, [], ◌∷◌, ◌++◌}
+use Rattle.std.proofs.Common.{Ok, Err}
 use Rattle.leaves.specs.declared.error.Refusal.{Refusal}
-use Rattle.leaves.specs.declared.error.Check.{Check}
-use Rattle.leaves.specs.declared.error.Check.TheVariants.{Passed, Refused}
-use Rattle.leaves.specs.Refusals.{number_of, first_of}
+use Rattle.leaves.specs.Refusals.{number_of, first_of, Check}
 use Rattle.leaves.proofs.FirstOf.{first_pass, first_stop}
 use Rattle.reference.specs.Rust.{Error, Run, done, fails, ◌>>=◌, ◌>>◌, fail_if}
 use Rattle.reference.specs.Compared.{error_number, refuses, outcome, answer}
@@ -17,16 +16,20 @@ pub record Fails {A : Type 0} (m : Run A) (why : Refusal) : Type 0 where
   pub is : m ≡ fails error
 
 pub record Follows {A : Type 0} (rows : List (Bool × Refusal)) (m k : Run A) : Type 0 where
-  pub passed : first_of rows ≡ Passed → m ≡ k
-  pub refused : (why : Refusal) → first_of rows ≡ Refused why → Fails m why
+  pub passed : first_of rows ≡ Ok tt → m ≡ k
+  pub refused : (why : Refusal) → first_of rows ≡ Err why → Fails m why
 
 -- a check does not both pass and refuse
 abbrev Passes : Check → Type 0
-Passes Passed = Unit {0}
-Passes (Refused w) = ⊥
+Passes (Ok passed) = Unit {0}
+Passes (Err w) = ⊥
 
-not_both : (w : Refusal) → Passed ≡ Refused w → ⊥
+not_both : (w : Refusal) → ◌≡◌ {A = Check} (Ok tt) (Err w) → ⊥
 not_both w e = subst Passes e tt
+
+-- and it refuses for one cause
+same_cause : {v w : Refusal} → ◌≡◌ {A = Check} (Err v) (Err w) → v ≡ w
+same_cause z = cc
 
 -- ---- one row
 
@@ -35,11 +38,8 @@ pub row_stops : {A : Type 0} (why : Refusal) (m k : Run A) → Fails m why → F
 row_stops why m k f =
     record {
       passed = λ p. absurd (not_both why (sym p));
-      refused = λ w p. let z : Refused why ≡ Refused w = p in record { error = f.error; number = f.number ∙ ap number_of (same z); is = f.is };
+      refused = λ w p. record { error = f.error; number = f.number ∙ ap number_of (same_cause p); is = f.is };
     }
-  where
-    same : {w : Refusal} → Refused why ≡ Refused w → why ≡ w
-    same z = cc
 
 -- if t { return Err(e); }
 pub row_fails_lem : {A : Type 0} (t : Bool) (why : Refusal) (e : Error) (k : Run A) → error_number e ≡ number_of why → Follows ((t, why) ∷ []) (fail_if t e >> k) k
@@ -51,7 +51,7 @@ row_fails_lem false why e k n =
     }
 
 -- a row that lets through does not apply
-pub row_passed : (t : Bool) (why : Refusal) → first_of ((t, why) ∷ []) ≡ Passed → t ≡ false
+pub row_passed : (t : Bool) (why : Refusal) → first_of ((t, why) ∷ []) ≡ Ok tt → t ≡ false
 row_passed true why p = absurd (not_both why (sym p))
 row_passed false why p = refl
 
@@ -69,28 +69,24 @@ nothing m k e = record { passed = λ p. e; refused = λ w p. absurd (not_both w 
 
 -- ---- rows after rows
 
-pub then : {A : Type 0} (xs ys : List (Bool × Refusal)) (m k l : Run A) → Follows xs m k → (first_of xs ≡ Passed → Follows ys k l) → Follows (xs ++ ys) m l
+pub then : {A : Type 0} (xs ys : List (Bool × Refusal)) (m k l : Run A) → Follows xs m k → (first_of xs ≡ Ok tt → Follows ys k l) → Follows (xs ++ ys) m l
 then xs ys m k l f g =
     record {
-      passed = λ p. go (first_of xs) refl (λ q. let e : first_of ys ≡ Passed = sym (first_pass xs ys q) ∙ p in f.passed q ∙ (g q).passed e) (λ w q. let z : Refused w ≡ Passed = sym (first_stop xs ys w q) ∙ p in cc);
+      passed = λ p. go (first_of xs) refl (λ q. let e : first_of ys ≡ Ok tt = sym (first_pass xs ys q) ∙ p in f.passed q ∙ (g q).passed e) (λ w q. let z : Err w ≡ Ok tt = sym (first_stop xs ys w q) ∙ p in cc);
       refused = λ w p. fall (first_of xs) refl w p;
     }
   where
-    go : (c : Check) → first_of xs ≡ c → (first_of xs ≡ Passed → m ≡ l) → ((w : Refusal) → first_of xs ≡ Refused w → m ≡ l) → m ≡ l
-    go Passed e a b = a e
-    go (Refused w) e a b = b w e
+    go : (c : Check) → first_of xs ≡ c → (first_of xs ≡ Ok tt → m ≡ l) → ((w : Refusal) → first_of xs ≡ Err w → m ≡ l) → m ≡ l
+    go (Ok passed) e a b = a e
+    go (Err w) e a b = b w e
 
-    fall : (c : Check) → first_of xs ≡ c → (w : Refusal) → first_of (xs ++ ys) ≡ Refused w → Fails m w
-    fall Passed q w p =
+    fall : (c : Check) → first_of xs ≡ c → (w : Refusal) → first_of (xs ++ ys) ≡ Err w → Fails m w
+    fall (Ok passed) q w p =
         let r = (g q).refused w (sym (first_pass xs ys q) ∙ p) in
         record { error = r.error; number = r.number; is = f.passed q ∙ r.is }
-    fall (Refused v) q w p =
+    fall (Err v) q w p =
         let r = f.refused v q in
-        let z : Refused v ≡ Refused w = sym (first_stop xs ys v q) ∙ p in
-        record { error = r.error; number = r.number ∙ ap number_of (same z); is = r.is }
-      where
-        same : Refused v ≡ Refused w → v ≡ w
-        same z = cc
+        record { error = r.error; number = r.number ∙ ap number_of (same_cause (sym (first_stop xs ys v q) ∙ p)); is = r.is }
 
 -- ---- what a run goes on with
 
@@ -106,7 +102,7 @@ pub from : {A : Type 0} (rows : List (Bool × Refusal)) (m n k : Run A) → m �
 from rows m n k e h = subst (λ (r : Run _). Follows rows r k) (sym e) h
 
 -- what it comes to where no row applies, said otherwise
-pub to : {A : Type 0} (rows : List (Bool × Refusal)) (m k l : Run A) → Follows rows m k → (first_of rows ≡ Passed → k ≡ l) → Follows rows m l
+pub to : {A : Type 0} (rows : List (Bool × Refusal)) (m k l : Run A) → Follows rows m k → (first_of rows ≡ Ok tt → k ≡ l) → Follows rows m l
 to rows m k l h e = record { passed = λ p. h.passed p ∙ e p; refused = h.refused }
 
 -- its answer is the document's
@@ -114,5 +110,5 @@ pub answered : {A : Type 0} (rows : List (Bool × Refusal)) (m : Run A) (a : A) 
 answered rows m a h = go (first_of rows) refl
   where
     go : (c : Check) → first_of rows ≡ c → outcome m ≡ answer c a
-    go Passed e = ap outcome (h.passed e)
-    go (Refused w) e = let r = h.refused w e in ap outcome r.is ∙ (λ z. refuses (r.number z) (kind_is r.error w r.number z))
+    go (Ok passed) e = ap outcome (h.passed e)
+    go (Err w) e = let r = h.refused w e in ap outcome r.is ∙ (λ z. refuses (r.number z) (kind_is r.error w r.number z))

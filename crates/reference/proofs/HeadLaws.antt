@@ -18,6 +18,7 @@ use Rattle.leaves.specs.Formats.{bits_per_pixel, is_indexed, is_rgb565}
 use Rattle.leaves.specs.Lists.{cat}
 use Rattle.leaves.specs.Masks.{has_alpha_mask, mask_compression}
 use Rattle.leaves.specs.Sizes as document
+use Rattle.leaves.specs.Options.{bitfields_in, calibrated_in}
 use Rattle.format.specs.declared.layout.Mode.{Mode}
 use Rattle.format.specs.declared.layout.Mode.TheVariants.{Masked, Calibrated, Profiled, Plain}
 use Rattle.format.specs.File.{mode_in, depth_in, raw_bytes, entries_of, colour_table, stored_height_of}
@@ -97,18 +98,18 @@ head_bytes_in m i = 14 + 40 + length (head_rest m i.source i.options 0 0) + 4 * 
 
 -- depth and compression of its stored rows
 abbrev pub depth_for : Mode → Input → ℕ
-depth_for m i = cond (is_masked m) i.options.bitfields.bpp (bits_per_pixel i.source.format)
+depth_for m i = cond (is_masked m) (bitfields_in i.options).bpp (bits_per_pixel i.source.format)
 
 abbrev pub compression_for : Mode → Input → ℕ
-compression_for m i = cond (is_masked m) (mask_compression i.options.bitfields.masks) (plain_compression i.source.format)
+compression_for m i = cond (is_masked m) (mask_compression (bitfields_in i.options).masks) (plain_compression i.source.format)
 
 pub depth_by : (i : Input) → depth_in i ≡ depth_for (mode_in i) i
 unfolding depth_of
-depth_by i = ap (λ b. cond b i.options.bitfields.bpp (bits_per_pixel i.source.format)) (given_mode i.source i.options)
+depth_by i = ap (λ b. cond b (bitfields_in i.options).bpp (bits_per_pixel i.source.format)) (given_mode i.source i.options)
 
 pub compression_by : (i : Input) → rows_compression i.source i.options ≡ compression_for (mode_in i) i
 unfolding rows_compression
-compression_by i = ap (λ b. cond b (mask_compression i.options.bitfields.masks) (plain_compression i.source.format)) (given_mode i.source i.options)
+compression_by i = ap (λ b. cond b (mask_compression (bitfields_in i.options).masks) (plain_compression i.source.format)) (given_mode i.source i.options)
 
 -- the two headers' first 54 bytes
 abbrev pub first_in : Mode → Input → ℕ → ℕ → List ℕ
@@ -184,13 +185,13 @@ regroup out first masks endpoints gammas table = simp append_assoc
 module _ (i : Input) (out : List ℕ) (file_size_of pixel_bytes : ℕ) where
   -- mask mode
   pub masked_is : is_indexed i.source.format ≡ false
-      → write_masks (masks_of i.options.bitfields.bpp i.options.bitfields.masks)
-      (write_dib_header_v3 (write_file_header out file_size_of (head_bytes_in Masked i)) i.source.width (stored_height_of i) i.options.bitfields.bpp (mask_compression i.options.bitfields.masks) 0)
+      → write_masks (masks_of (bitfields_in i.options).bpp (bitfields_in i.options).masks)
+      (write_dib_header_v3 (write_file_header out file_size_of (head_bytes_in Masked i)) i.source.width (stored_height_of i) (bitfields_in i.options).bpp (mask_compression (bitfields_in i.options).masks) 0)
       ≡ out ++ head_in Masked i pixel_bytes file_size_of
   unfolding write_dib_header_v3 head_rest clr_used_of
   masked_is direct =
-      let masks = i.options.bitfields.masks in
-      let d = i.options.bitfields.bpp in
+      let masks = (bitfields_in i.options).masks in
+      let d = (bitfields_in i.options).bpp in
       let empty : 0 ≡ entries_of i = no_entries i direct in
       let used : 0 ≡ document.clr_used_of d (entries_of i) = used_is false i d (λ _. empty) in
       let first : List ℕ = first_in Masked i pixel_bytes file_size_of in
@@ -212,7 +213,7 @@ module _ (i : Input) (out : List ℕ) (file_size_of pixel_bytes : ℕ) where
       let w = i.source.width in
       let d = bits_per_pixel i.source.format in
       let c = plain_compression i.source.format in
-      let cal = i.options.calibrated_rgb in
+      let cal = (calibrated_in i.options) in
       let used = used_is (is_indexed i.source.format) i d (no_entries i) in
       let fields : List (List ℕ) = to_le_bytes 4 (get_or masks 0 0) ∷ to_le_bytes 4 (get_or masks 1 0) ∷ to_le_bytes 4 (get_or masks 2 0) ∷ to_le_bytes 4 (get_or masks 3 0) ∷ to_le_bytes 4 0 ∷ [] in
       let first = first_in Calibrated i pixel_bytes file_size_of in

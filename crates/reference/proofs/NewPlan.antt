@@ -8,12 +8,13 @@ use native.Mathlib.Omega.{arith}
 use borrow.Author.Tests.{ltb-true, ltb-false, le-leb, eqb-true, not-false}
 use lib.Dec.{eqb, ltb}
 use lib.ListN.{length, get_or, take, drop, replicate}
+use Rattle.std.proofs.Common.{Ok, Err}
+use Rattle.std.specs.Option as option
 use Rattle.leaves.specs.declared.image.BmpPixelFormat.{BmpPixelFormat}
 use Rattle.leaves.specs.declared.image.BmpPixelFormat.TheVariants as source
 use Rattle.leaves.specs.declared.encoder.EncodedBmpFormat.{EncodedBmpFormat}
 use Rattle.leaves.specs.declared.error.Refusal.{Refusal}
 use Rattle.leaves.specs.declared.error.Refusal.TheVariants.{ZeroDimension, DimensionTooLarge, LimitTooLarge, NegativeResolution, PaletteMissing, PaletteNotQuads, SeveralModes, MaskSource, FileTooLarge}
-use Rattle.leaves.specs.declared.error.Check.TheVariants.{Passed, Refused}
 use Rattle.leaves.specs.Formats as formats
 use Rattle.leaves.specs.Formats.{mask_source}
 use Rattle.leaves.specs.Masks.{is_one_run, bitfields_rows}
@@ -30,6 +31,7 @@ use Rattle.format.specs.Input.{Input}
 use Rattle.format.specs.Refusals.{given_masks_rows, check_rows, call_rows, file_too_large, plan_rows}
 use Rattle.leaves.proofs.FirstOf.{first_pass, first_stop}
 use Rattle.leaves.specs.Refusals as rows
+use Rattle.leaves.specs.Options.{bitfields_in, calibrated_in}
 use Rattle.format.proofs.Acceptance.{masks_accepted, given_masks}
 use Rattle.format.proofs.FileSizes.{pack_ok}
 use Rattle.format.proofs.HeadFields.{depth_le}
@@ -153,16 +155,16 @@ layout_is depth masks small runs =
     rw (shift_len_is (get_or masks 0 0) (small 0) (runs 0 (omega arith)), shift_len_is (get_or masks 1 0) (small 1) (runs 1 (omega arith)), shift_len_is (get_or masks 2 0) (small 2) (runs 2 (omega arith)), shift_len_is (get_or masks 3 0) (small 3) (runs 3 (omega arith)))
 
 -- RowPack::masks follows row 11
-pack_masks_lem : (i : Input) → ((k : ℕ) → get_or i.options.bitfields.masks k 0 < 2 ^ 32) → ((k : ℕ) → k < 4 → is_one_run (get_or i.options.bitfields.masks k 0) ≡ true)
-    → Follows ((mask_source i.source.format, MaskSource) ∷ []) (pack_masks i.source.format (masks_of i.options.bitfields.bpp i.options.bitfields.masks)) (done (pack_of (mask_pack i.source.format i.options.bitfields.bpp i.options.bitfields.masks)))
+pack_masks_lem : (i : Input) → ((k : ℕ) → get_or (bitfields_in i.options).masks k 0 < 2 ^ 32) → ((k : ℕ) → k < 4 → is_one_run (get_or (bitfields_in i.options).masks k 0) ≡ true)
+    → Follows ((mask_source i.source.format, MaskSource) ∷ []) (pack_masks i.source.format (masks_of (bitfields_in i.options).bpp (bitfields_in i.options).masks)) (done (pack_of (mask_pack i.source.format (bitfields_in i.options).bpp (bitfields_in i.options).masks)))
 unfolding pack_masks
 pack_masks_lem i small runs = go i.source.format
   where
     depth : ℕ
-    depth = i.options.bitfields.bpp
+    depth = (bitfields_in i.options).bpp
 
     masks : List ℕ
-    masks = i.options.bitfields.masks
+    masks = (bitfields_in i.options).masks
 
     taken : (n : ℕ) (bgr : Bool) → Follows ((false, MaskSource) ∷ []) (new_layout (masks_of depth masks) >>= λ layout. done (Packing.Masks n bgr layout)) (done (Packing.Masks n bgr (layout_in (channels_of depth masks))))
     taken n bgr = rw (layout_is depth masks small runs) (follow.row_passes false MaskSource _ refl)
@@ -186,7 +188,7 @@ pack_masks_lem i small runs = go i.source.format
 
 -- what the file of a mode without a stream is written as
 abbrev pub format_in : Mode → Input → EncodedBmpFormat
-format_in m i = cond (is_masked m) (mask_format i.options.bitfields.masks) (plain_token i.source.format)
+format_in m i = cond (is_masked m) (mask_format (bitfields_in i.options).masks) (plain_token i.source.format)
 
 abbrev pub plan_in : Mode → Input → Rows → Sizes → Plan
 plan_in m i rows sizes = record { head = head_for m i.source.format i; rows = rows; width = i.source.width; height = i.source.height; format = format_in m i; sizes = sizes }
@@ -213,7 +215,7 @@ profile_is false true false l icc = refl
 profile_is false false true l icc = refl
 profile_is false false false l icc = refl
 
-module _ (i : Input) (small : (k : ℕ) → get_or i.options.bitfields.masks k 0 < 2 ^ 32) (palette : formats.is_indexed i.source.format ≡ true → i.source.has_palette ≡ true) where
+module _ (i : Input) (small : (k : ℕ) → get_or (bitfields_in i.options).masks k 0 < 2 ^ 32) (palette : formats.is_indexed i.source.format ≡ true → i.source.has_palette ≡ true) where
   abbrev src : EncodeSource
   src = source_of i
 
@@ -221,24 +223,24 @@ module _ (i : Input) (small : (k : ℕ) → get_or i.options.bitfields.masks k 0
   options = options_of i
 
   abbrev masks : BmpBitfields
-  masks = masks_of i.options.bitfields.bpp i.options.bitfields.masks
+  masks = masks_of (bitfields_in i.options).bpp (bitfields_in i.options).masks
 
   -- rows without masks and with them
   abbrev plain_rows_of : RowPack
   plain_rows_of = pack_of (plain_pack i.source.format)
 
   abbrev mask_rows : RowPack
-  mask_rows = pack_of (mask_pack i.source.format i.options.bitfields.bpp i.options.bitfields.masks)
+  mask_rows = pack_of (mask_pack i.source.format (bitfields_in i.options).bpp (bitfields_in i.options).masks)
 
   colour_rows_lem : colour_rows src options ≡ (rows_in plain_rows_of i >>= λ rows. done (rows, colour_header_for i.source.format i))
   unfolding colour_rows source_of options_of
   colour_rows_lem = rw (chosen_heads i palette).1
 
-  calibrated_plan : (colour_rows src options >>= λ rest. assemble src (reference.V4Calibrated rest.1 i.options.calibrated_rgb) rest.0) ≡ (rows_in plain_rows_of i >>= sized_in Calibrated i)
+  calibrated_plan : (colour_rows src options >>= λ rest. assemble src (reference.V4Calibrated rest.1 (calibrated_in i.options)) rest.0) ≡ (rows_in plain_rows_of i >>= sized_in Calibrated i)
   unfolding assemble source_of
   calibrated_plan =
-      ap (λ r. r >>= λ rest. assemble src (reference.V4Calibrated rest.1 i.options.calibrated_rgb) rest.0) colour_rows_lem
-      ∙ bind_bind (rows_in plain_rows_of i) (λ rows. done (rows, colour_header_for i.source.format i)) (λ rest. assemble src (reference.V4Calibrated rest.1 i.options.calibrated_rgb) rest.0)
+      ap (λ r. r >>= λ rest. assemble src (reference.V4Calibrated rest.1 (calibrated_in i.options)) rest.0) colour_rows_lem
+      ∙ bind_bind (rows_in plain_rows_of i) (λ rows. done (rows, colour_header_for i.source.format i)) (λ rest. assemble src (reference.V4Calibrated rest.1 (calibrated_in i.options)) rest.0)
 
   profiled_plan : (colour_rows src options >>= λ rest. assemble src (reference.V5Profile rest.1 (cond i.source.has_linked_icc 0x4C494E4B 0x4D424544) i.options.rendering_intent (cond i.source.has_linked_icc i.linked i.icc)) rest.0)
       ≡ (rows_in plain_rows_of i >>= sized_in Profiled i)
@@ -252,11 +254,11 @@ module _ (i : Input) (small : (k : ℕ) → get_or i.options.bitfields.masks k 0
   unfolding reference.plain assemble source_of options_of
   plain_plan = rw (chosen_heads i palette).0
 
-  masked_plan : Follows (bitfields_rows i.options.bitfields.bpp i.options.bitfields.masks ++ ((mask_source i.source.format, MaskSource) ∷ [])) (plan_bitfields src masks options) (rows_in mask_rows i >>= sized_in Masked i)
+  masked_plan : Follows (bitfields_rows (bitfields_in i.options).bpp (bitfields_in i.options).masks ++ ((mask_source i.source.format, MaskSource) ∷ [])) (plan_bitfields src masks options) (rows_in mask_rows i >>= sized_in Masked i)
   unfolding plan_bitfields assemble source_of options_of
   masked_plan =
-      let d = i.options.bitfields.bpp in
-      let m = i.options.bitfields.masks in
+      let d = (bitfields_in i.options).bpp in
+      let m = (bitfields_in i.options).masks in
       let format : Plan → Run Plan = λ plan. done (record { head = plan.head; rows = plan.rows; width = plan.width; height = plan.height; format = format_in Masked i; sizes = plan.sizes }) in
       let rest : RowPack → Run Plan = λ pack. new_rows src.plane pack src.width src.height options.top_down >>= λ rows. assemble src (reference.V3Masks masks) rows >>= format in
       follow.then (bitfields_rows d m) ((mask_source i.source.format, MaskSource) ∷ []) _ (pack_masks i.source.format masks >>= rest) _
@@ -275,9 +277,9 @@ module _ (i : Input) (small : (k : ℕ) → get_or i.options.bitfields.masks k 0
 
   -- by the options given
   planned : (a b c : Bool)
-      → Follows (cond a (bitfields_rows i.options.bitfields.bpp i.options.bitfields.masks ++ ((mask_source i.source.format, MaskSource) ∷ [])) [])
-      (plan_for src options (given a masks) (given b i.options.calibrated_rgb) (given c (cond i.source.has_linked_icc i.linked i.icc, cond i.source.has_linked_icc 0x4C494E4B 0x4D424544)))
-      (rows_in (pack_of (cond a (mask_pack i.source.format i.options.bitfields.bpp i.options.bitfields.masks) (plain_pack i.source.format))) i >>= sized_in (cond a Masked (cond b Calibrated (cond c Profiled Plain))) i)
+      → Follows (cond a (bitfields_rows (bitfields_in i.options).bpp (bitfields_in i.options).masks ++ ((mask_source i.source.format, MaskSource) ∷ [])) [])
+      (plan_for src options (given a masks) (given b (calibrated_in i.options)) (given c (cond i.source.has_linked_icc i.linked i.icc, cond i.source.has_linked_icc 0x4C494E4B 0x4D424544)))
+      (rows_in (pack_of (cond a (mask_pack i.source.format (bitfields_in i.options).bpp (bitfields_in i.options).masks) (plain_pack i.source.format))) i >>= sized_in (cond a Masked (cond b Calibrated (cond c Profiled Plain))) i)
   unfolding plan_for options_of
   planned true b c = masked_plan
   planned false true c = follow.nothing _ _ calibrated_plan
@@ -292,8 +294,8 @@ pub record PackSizes (i : Input) : Type 0 where
   pub bits : pack_bits (pack_of (pack_in i)) ≤ 32
 
 -- of a call whose masks, if given, were accepted
-pub pack_sizes : (i : Input) → (i.options.has_bitfields ≡ true → MasksAccepted i.options.bitfields.bpp i.options.bitfields.masks)
-    → (i.options.has_bitfields ≡ true → mask_source i.source.format ≡ false) → PackSizes i
+pub pack_sizes : (i : Input) → (option.is_some i.options.bitfields ≡ true → MasksAccepted (bitfields_in i.options).bpp (bitfields_in i.options).masks)
+    → (option.is_some i.options.bitfields ≡ true → mask_source i.source.format ≡ false) → PackSizes i
 pack_sizes i masks samples =
     let depth : pack_bits (pack_of (pack_in i)) ≡ depth_in i = same_bits (pack_in i) ∙ (pack_ok i masks samples).1 in
     record { bytes = same_bytes (pack_in i) ∙ pack_bytes_lem i; depth = depth; bits = omega (arith, depth, depth_le i.source i.options (λ e. (masks e).depths)) }
@@ -308,10 +310,10 @@ given_some false a = refl
 requested_is : (i : Input)
     → (add 64 (from_bool (is_some (options_of i).bitfields)) (from_bool (is_some (options_of i).calibrated_rgb))
     >>= λ both. add 64 both (from_bool (is_some (options_of i).linked_icc || is_some (cond i.options.embed_icc (given i.source.has_icc i.icc) none))))
-    ≡ done (one i.options.has_bitfields + one i.options.has_calibrated_rgb + one (profile_mode i.source.has_linked_icc i.source.has_icc i.options.embed_icc))
+    ≡ done (one (option.is_some i.options.bitfields) + one (option.is_some i.options.calibrated_rgb) + one (profile_mode i.source.has_linked_icc i.source.has_icc i.options.embed_icc))
 unfolding options_of
 requested_is i =
-    go i.options.has_bitfields i.options.has_calibrated_rgb i.source.has_linked_icc i.source.has_icc i.options.embed_icc (masks_of i.options.bitfields.bpp i.options.bitfields.masks)
+    go (option.is_some i.options.bitfields) (option.is_some i.options.calibrated_rgb) i.source.has_linked_icc i.source.has_icc i.options.embed_icc (masks_of (bitfields_in i.options).bpp (bitfields_in i.options).masks)
   where
     v5 : (linked embedded embedding : Bool) → (is_some (given linked i.linked) || is_some (cond embedding (given embedded i.icc) none)) ≡ profile_mode linked embedded embedding
     v5 true embedded embedding = refl
@@ -329,10 +331,10 @@ requested_is i =
     few false = omega arith
 
     go : (a b l e o : Bool) (m : BmpBitfields)
-        → (add 64 (from_bool (is_some (given a m))) (from_bool (is_some (given b i.options.calibrated_rgb))) >>= λ both. add 64 both (from_bool (is_some (given l i.linked) || is_some (cond o (given e i.icc) none))))
+        → (add 64 (from_bool (is_some (given a m))) (from_bool (is_some (given b (calibrated_in i.options)))) >>= λ both. add 64 both (from_bool (is_some (given l i.linked) || is_some (cond o (given e i.icc) none))))
         ≡ done (one a + one b + one (profile_mode l e o))
     go a b l e o m =
-        rw (given_some a m, given_some b i.options.calibrated_rgb, v5 l e o, bool a, bool b, bool (profile_mode l e o), add_is 64 (one a) (one b) (omega (arith, few a, few b)), add_is 64 (one a + one b) (one (profile_mode l e o)) (omega (arith, few a, few b, few (profile_mode l e o))))
+        rw (given_some a m, given_some b (calibrated_in i.options), v5 l e o, bool a, bool b, bool (profile_mode l e o), add_is 64 (one a) (one b) (omega (arith, few a, few b)), add_is 64 (one a + one b) (one (profile_mode l e o)) (omega (arith, few a, few b, few (profile_mode l e o))))
 
 module _ (i : Input) (ok : Typed i) (domain : Domain i) where
   abbrev dimensions : List (Bool × Refusal)
@@ -345,7 +347,7 @@ module _ (i : Input) (ok : Typed i) (domain : Domain i) where
   palettes = palette_rows (formats.is_indexed i.source.format) i.source.has_palette (length i.palette)
 
   abbrev modes : List (Bool × Refusal)
-  modes = mode_rows i.options.has_bitfields i.options.has_calibrated_rgb (profile_mode i.source.has_linked_icc i.source.has_icc i.options.embed_icc)
+  modes = mode_rows (option.is_some i.options.bitfields) (option.is_some i.options.calibrated_rgb) (profile_mode i.source.has_linked_icc i.source.has_icc i.options.embed_icc)
 
   abbrev planes : List (Bool × Refusal)
   planes = plane_rows i.source.width i.source.height i.source.stride (formats.bytes_per_pixel i.source.format) (length i.plane)
@@ -354,7 +356,7 @@ module _ (i : Input) (ok : Typed i) (domain : Domain i) where
   channels = given_masks_rows i.source i.options
 
   -- what stops among the first rows stops the plan
-  first_three : (why : Refusal) → first_of (dimensions ++ settings ++ palettes) ≡ Refused why → first_number (plan_rows (limit_in i) i) ≡ number_of why
+  first_three : (why : Refusal) → first_of (dimensions ++ settings ++ palettes) ≡ Err why → first_number (plan_rows (limit_in i) i) ≡ number_of why
   unfolding plan_rows check_rows
   first_three why e =
       ap check_number
@@ -375,14 +377,14 @@ module _ (i : Input) (ok : Typed i) (domain : Domain i) where
       go true e z = absurd (domain.not_2 (first_three DimensionTooLarge (first_stop (dimensions ++ settings) palettes DimensionTooLarge (first_stop dimensions settings DimensionTooLarge (rw (z, e))))))
 
   -- 20 and 21 that do not apply
-  settings_follow : first_of dimensions ≡ Passed → (k : Run Plan) → Follows settings k k
+  settings_follow : first_of dimensions ≡ Ok tt → (k : Run Plan) → Follows settings k k
   unfolding settings_rows
   settings_follow passed k =
       let large = limit_too_large i.options.limit in
       let negative = negative_resolution i.options.x_pels_per_meter i.options.y_pels_per_meter in
       follow.then ((large, LimitTooLarge) ∷ []) ((negative, NegativeResolution) ∷ []) k k k (go large refl) (λ p. fall negative refl (follow.row_passed large LimitTooLarge p))
     where
-      stops : (why : Refusal) → first_of settings ≡ Refused why → first_number (plan_rows (limit_in i) i) ≡ number_of why
+      stops : (why : Refusal) → first_of settings ≡ Err why → first_number (plan_rows (limit_in i) i) ≡ number_of why
       stops why e = first_three why (first_stop (dimensions ++ settings) palettes why (first_pass dimensions settings passed ∙ e))
 
       go : (b : Bool) → limit_too_large i.options.limit ≡ b → Follows ((b, LimitTooLarge) ∷ []) k k
@@ -394,7 +396,7 @@ module _ (i : Input) (ok : Typed i) (domain : Domain i) where
       fall true e z = absurd (domain.not_21 (stops NegativeResolution (rw (z, e))))
 
   -- 3, and 4 that does not apply
-  palettes_follow : first_of (dimensions ++ settings) ≡ Passed → (k : Run Plan) → Follows palettes (fail_if (is_indexed i.source.format && not (is_some (source_of i).palette)) requires_palette >> k) k
+  palettes_follow : first_of (dimensions ++ settings) ≡ Ok tt → (k : Run Plan) → Follows palettes (fail_if (is_indexed i.source.format && not (is_some (source_of i).palette)) requires_palette >> k) k
   unfolding palette_rows source_of
   palettes_follow passed k =
       let missing = palette_missing (formats.is_indexed i.source.format) i.source.has_palette in
@@ -429,7 +431,7 @@ module _ (i : Input) (ok : Typed i) (domain : Domain i) where
   unfolding given_masks_rows mode_of layout.pack_of source_of options_of
   masks_follow palette =
       rw (profile_is i.source.has_linked_icc i.source.has_icc i.options.embed_icc i.linked i.icc)
-      (planned i ok.masks palette i.options.has_bitfields i.options.has_calibrated_rgb (profile_mode i.source.has_linked_icc i.source.has_icc i.options.embed_icc))
+      (planned i ok.masks palette (option.is_some i.options.bitfields) (option.is_some i.options.calibrated_rgb) (profile_mode i.source.has_linked_icc i.source.has_icc i.options.embed_icc))
 
   -- 12 and 13
   planes_follow : PackSizes i → Follows planes (rows_in (pack_of (pack_in i)) i >>= sized_in (mode_in i) i) (sized_in (mode_in i) i (rows_for (pack_of (pack_in i)) i))
@@ -440,7 +442,7 @@ module _ (i : Input) (ok : Typed i) (domain : Domain i) where
       follow.on planes (rows_in pack i) (done (rows_for pack i)) (sized_in (mode_in i) i) (subst (λ r. Follows r (rows_in pack i) (done (rows_for pack i))) p (new_rows_lem i pack ok.width domain.product few sizes.bits))
 
   -- an indexed source that row 3 lets through has its palette
-  palette_of_lem : first_of palettes ≡ Passed → formats.is_indexed i.source.format ≡ true → i.source.has_palette ≡ true
+  palette_of_lem : first_of palettes ≡ Ok tt → formats.is_indexed i.source.format ≡ true → i.source.has_palette ≡ true
   unfolding palette_rows
   palette_of_lem p e = go i.source.has_palette refl
     where
@@ -452,7 +454,7 @@ module _ (i : Input) (ok : Typed i) (domain : Domain i) where
           absurd (false≢true (sym z))
 
   -- a table has whole entries
-  pub quads : first_of (call_rows i) ≡ Passed → (length i.palette % 4 ≡ 0) ⊎ (formats.is_indexed i.source.format ≡ false)
+  pub quads : first_of (call_rows i) ≡ Ok tt → (length i.palette % 4 ≡ 0) ⊎ (formats.is_indexed i.source.format ≡ false)
   unfolding check_rows palette_rows
   quads p =
       let f = formats.is_indexed i.source.format in

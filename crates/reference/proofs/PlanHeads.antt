@@ -10,6 +10,7 @@ use Rattle.leaves.specs.declared.image.BmpPixelFormat.{BmpPixelFormat}
 use Rattle.leaves.specs.declared.image.BmpPixelFormat.TheVariants as source
 use Rattle.leaves.specs.Formats.{bits_per_pixel, is_indexed, is_rgb565}
 use Rattle.leaves.specs.Masks.{has_alpha_mask}
+use Rattle.leaves.specs.Options.{bitfields_in, calibrated_in}
 use Rattle.format.specs.declared.layout.Mode.{Mode}
 use Rattle.format.specs.declared.layout.Mode.TheVariants.{Masked, Calibrated, Profiled, Plain}
 use Rattle.format.specs.File.{entries_of}
@@ -39,8 +40,8 @@ abbrev pub plain_head_for : BmpPixelFormat → Input → Head
 plain_head_for f i = cond (is_indexed f) (indexed_head f i) (cond (is_rgb565 f) V4Rgb565 (V3 (bits_per_pixel f)))
 
 abbrev pub head_for : Mode → BmpPixelFormat → Input → Head
-head_for Masked f i = V3Masks (masks_of i.options.bitfields.bpp i.options.bitfields.masks)
-head_for Calibrated f i = V4Calibrated (colour_header_for f i) i.options.calibrated_rgb
+head_for Masked f i = V3Masks (masks_of (bitfields_in i.options).bpp (bitfields_in i.options).masks)
+head_for Calibrated f i = V4Calibrated (colour_header_for f i) (calibrated_in i.options)
 head_for Profiled f i = V5Profile (colour_header_for f i) (cond i.source.has_linked_icc 0x4C494E4B 0x4D424544) i.options.rendering_intent (cond i.source.has_linked_icc i.linked i.icc)
 head_for Plain f i = plain_head_for f i
 
@@ -100,11 +101,11 @@ masks_len masks =
     add_is 32 40 (cond (has_alpha_mask masks) 16 12) (omega (arith, n, tail_small masks)) ∙ ap (λ z. done (40 + z)) (sym n)
 
 -- Head::len is the document's
-pub head_len_lem : (m : Mode) (i : Input) → length i.options.calibrated_rgb.endpoints ≡ 9 → length i.options.calibrated_rgb.gamma ≡ 3
+pub head_len_lem : (m : Mode) (i : Input) → length (calibrated_in i.options).endpoints ≡ 9 → length (calibrated_in i.options).gamma ≡ 3
     → (m ≡ Masked → is_indexed i.source.format ≡ false) → head_len (head_for m i.source.format i) ≡ done (14 + 40 + length (head_rest m i.source i.options 0 0) + 4 * entries_of i)
 unfolding head_len header_len head_rest table_bytes_of
 head_len_lem Masked i nine three direct =
-    let masks = i.options.bitfields.masks in
+    let masks = (bitfields_in i.options).masks in
     let e : 14 + (40 + length (mask_tail masks)) + 4 * entries_of i ≡ 14 + 40 + length (mask_tail masks) + 4 * entries_of i = omega arith in
     rw (masks_len masks, short_len (40 + length (mask_tail masks)) i (omega (arith, tail_small masks)) (direct refl), e)
 head_len_lem Calibrated i nine three direct =

@@ -12,6 +12,7 @@ use Rattle.leaves.specs.declared.image.BmpPixelFormat.TheVariants as source
 use Rattle.leaves.specs.declared.error.Refusal.TheVariants.{FileTooLarge}
 use Rattle.leaves.specs.Formats.{is_indexed}
 use Rattle.leaves.specs.Sizes.{row_stride}
+use Rattle.leaves.specs.Options.{bitfields_in, calibrated_in}
 use Rattle.format.specs.declared.layout.Mode.{Mode}
 use Rattle.format.specs.declared.layout.Mode.TheVariants.{Masked, Calibrated, Profiled, Plain}
 use Rattle.format.specs.File.{mode_in, depth_in, pack_in, rle_planned, raw_bytes, entries_of, head_bytes_of, tail_of, budget, plain_size_of, bound_of}
@@ -93,9 +94,9 @@ unfolding row_stride
 stride_small w d h = let m : w * d ≤ w * 32 = mul-le-mul_left w h in omega (arith, m)
 
 -- what stands behind the first 54 bytes has at most 84
-rest_small : (m : Mode) (i : Input) → length i.options.calibrated_rgb.endpoints ≡ 9 → length i.options.calibrated_rgb.gamma ≡ 3 → length (head_rest m i.source i.options 0 0) ≤ 84
+rest_small : (m : Mode) (i : Input) → length (calibrated_in i.options).endpoints ≡ 9 → length (calibrated_in i.options).gamma ≡ 3 → length (head_rest m i.source i.options 0 0) ≤ 84
 unfolding head_rest
-rest_small Masked i nine three = omega (arith, tail_small i.options.bitfields.masks)
+rest_small Masked i nine three = omega (arith, tail_small (bitfields_in i.options).masks)
 rest_small Calibrated i nine three = omega (arith, header_fills i.source i.options nine three Calibrated refl)
 rest_small Profiled i nine three = omega (arith, header_fills i.source i.options nine three Profiled refl)
 rest_small Plain i nine three = omega (arith, header_fills i.source i.options nine three Plain refl, header_le Plain i.source.format)

@@ -8,8 +8,8 @@ use borrow.Author.Tests.{ltb-false, leb-true}
 use lib.Dec.{ltb, leb}
 use lib.ListN.{length}
 use lib.Seq.{take-append_seam, drop-append_seam}
+use Rattle.std.proofs.Common.{Ok}
 use Rattle.leaves.specs.declared.error.Refusal.TheVariants.{FileTooLarge, StreamOverBudget}
-use Rattle.leaves.specs.declared.error.Check.TheVariants.{Passed}
 use Rattle.leaves.specs.Refusals.{first_of}
 use Rattle.format.specs.File.{limit_in, mode_in, pack_in, rle_planned, raw_bytes, head_bytes_of, budget, file_of, plain_size_of, bound_of, format_of}
 use Rattle.format.specs.Input.{Input}
@@ -43,7 +43,7 @@ bound_small limit most i ok k large = go (rle_planned i) refl
         fits false q = omega (arith, head_small i ok k, k.wide)
     go false e = omega (arith, ltb-false limit (plain_size_of i) (and_false (not (rle_planned i)) (ltb limit (plain_size_of i)) large (ap not e)))
 
-checks_passed : (i : Input) → first_of (plan_rows (limit_in i) i) ≡ Passed → first_of (call_rows i) ≡ Passed
+checks_passed : (i : Input) → first_of (plan_rows (limit_in i) i) ≡ Ok tt → first_of (call_rows i) ≡ Ok tt
 unfolding plan_rows
 checks_passed i p = (first_parts (call_rows i) ((file_too_large (limit_in i) i, FileTooLarge) ∷ []) p).0
 
@@ -66,14 +66,14 @@ module _ (i : Input) (ok : Typed i) (domain : Domain i) where
   bound_follows = follow.on (plan_rows (limit_in i) i) _ _ (λ plan. done plan.sizes.bound) plan_follows
 
   -- the file is written behind what `out` holds
-  written_is : (p : first_of (plan_rows (limit_in i) i) ≡ Passed) (out : List ℕ) → length out + bound_of (limit_in i) i < 2 ^ 63
+  written_is : (p : first_of (plan_rows (limit_in i) i) ≡ Ok tt) (out : List ℕ) → length out + bound_of (limit_in i) i < 2 ^ 63
       → write_into made out ≡ done (cond (stream_over_budget (limit_in i) i) (refused rle_over_limit out) (wrote (format_of (limit_in i) i) (out ++ original_file (limit_in i) i)))
   written_is p out room = let k = plan_passed i p in write_is (limit_in i) k.0.limited i ok k.0 domain.product (quads i ok domain (checks_passed i p)) k.1 out room
 
-  document_is : first_of (plan_rows (limit_in i) i) ≡ Passed → agreed i (original_file (limit_in i) i) (format_of (limit_in i) i) ≡ file_of (limit_in i) i
+  document_is : first_of (plan_rows (limit_in i) i) ≡ Ok tt → agreed i (original_file (limit_in i) i) (format_of (limit_in i) i) ≡ file_of (limit_in i) i
   document_is p = bridge i ok (plan_passed i p).0 (limit_in i)
 
-  behind_follows : (out : List ℕ) → (first_of (plan_rows (limit_in i) i) ≡ Passed → length out + bound_of (limit_in i) i < 2 ^ 63)
+  behind_follows : (out : List ℕ) → (first_of (plan_rows (limit_in i) i) ≡ Ok tt → length out + bound_of (limit_in i) i < 2 ^ 63)
       → Follows (plan_rows (limit_in i) i) (encode_behind run out >>= agreed_behind i out) (done (cond (stream_over_budget (limit_in i) i) (refused rle_over_limit out) (wrote (format_of (limit_in i) i) (out ++ file_of (limit_in i) i))))
   behind_follows out room =
       follow.to (plan_rows (limit_in i) i) _ _ _ (follow.on (plan_rows (limit_in i) i) _ _ (agreed_behind i out) (follow.on (plan_rows (limit_in i) i) _ _ (λ plan. write_into plan out) plan_follows))
@@ -96,7 +96,7 @@ module _ (i : Input) (ok : Typed i) (domain : Domain i) where
       last true = follow.row_fails_lem true StreamOverBudget rle_over_limit _ refl
       last false = follow.row_passes false StreamOverBudget _ refl
 
-  passed_plan : first_of (file_rows i) ≡ Passed → first_of (plan_rows (limit_in i) i) ≡ Passed
+  passed_plan : first_of (file_rows i) ≡ Ok tt → first_of (plan_rows (limit_in i) i) ≡ Ok tt
   unfolding file_rows
   passed_plan p = (first_parts (plan_rows (limit_in i) i) ((stream_over_budget (limit_in i) i, StreamOverBudget) ∷ []) p).0
 

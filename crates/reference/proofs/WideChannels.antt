@@ -10,12 +10,11 @@ use lib.Dec.{ltb, eqb}
 use lib.ListN.{length, get_or, length-append}
 use lib.Pow.{shl_exact, shl-shr, shr-shr}
 use Rattle.leaves.specs.declared.bitfields.MaskShiftLen.{MaskShiftLen}
-use Rattle.leaves.specs.Bytes.{le32}
+use Rattle.leaves.specs.Bytes.{le32, length-le32}
 use Rattle.leaves.specs.Fit.{repeated, fit}
 use Rattle.leaves.specs.Lists.{cat}
 use Rattle.leaves.specs.Masks.{count, lowest, is_one_run}
 use Rattle.leaves.proofs.Fitting.{fit-repeated}
-use Rattle.leaves.proofs.ListLaws.{length-le32}
 use Rattle.leaves.proofs.Runs.{count-zero}
 use Rattle.rows.specs.StoredRows.{field}
 use Rattle.rows.proofs.MaskCells.{field_none, field_some}

@@ -7,14 +7,16 @@ use Prim.Native.Nat.{ℕ, zero, suc, ◌^◌, ◌<◌}
 use native.Mathlib.Omega.{arith}
 use lib.Dec.{eqb}
 use lib.ListN.{length, get_or}
+use Rattle.std.proofs.Common.{is_some}
 use Rattle.leaves.specs.declared.image.BmpPixelFormat.{BmpPixelFormat}
 use Rattle.leaves.specs.declared.image.BmpPixelFormat.TheVariants.{Rgba, Rgb24, Bgra, Bgr24, Rgb555, Rgb565, Pal8, Indexed4, Indexed2, Indexed1}
-use Rattle.leaves.specs.Bytes.{le16, le32}
+use Rattle.leaves.specs.Bytes.{le16, le32, length-le32}
 use Rattle.leaves.specs.Formats.{bytes_per_pixel, blue_first}
 use Rattle.leaves.specs.Lists.{cat}
 use Rattle.leaves.specs.Sizes.{row_stride}
-use Rattle.leaves.proofs.ListLaws.{cat_ext, length-cat, length-le32}
+use Rattle.leaves.proofs.ListLaws.{cat_ext, length-cat}
 use Rattle.leaves.proofs.Runs.{count-le}
+use Rattle.leaves.specs.Options.{bitfields_in}
 use Rattle.rows.specs.declared.pack.RowPack.TheVariants.{Masks}
 use Rattle.rows.specs.StoredRows.{padded, mask_word, mask_cell, stored_row, stored_rows}
 use Rattle.rows.proofs.PackLaws.{padded_full}
@@ -120,23 +122,23 @@ none_of wide h k l = go (wide 0) (wide 1) (wide 2) (wide 3) h k l refl refl refl
 -- ---- all rows
 
 abbrev pub masks_in : Input → List ℕ
-masks_in i = i.options.bitfields.masks
+masks_in i = (bitfields_in i.options).masks
 
 -- a mask file with a channel of more than 16 bits
 abbrev pub wide_in : Input → Bool
-wide_in i = i.options.has_bitfields && any_wide (masks_in i)
+wide_in i = (is_some i.options.bitfields) && any_wide (masks_in i)
 
 module _ (i : Input) (ok : Typed i) (k : Checked i) where
   narrow_same : wide_in i ≡ false → (row : List ℕ) → ((j : ℕ) → get_or row j 0 < 256)
       → original_row (pack_in i) i.source.width row ≡ stored_row (pack_in i) i.source.width row
   unfolding pack_of
-  narrow_same h row small = go i.options.has_bitfields refl
+  narrow_same h row small = go (is_some i.options.bitfields) refl
     where
-      go : (b : Bool) → i.options.has_bitfields ≡ b
-          → original_row (cond b (mask_pack i.source.format i.options.bitfields.bpp (masks_in i)) (plain_pack i.source.format)) i.source.width row
-          ≡ stored_row (cond b (mask_pack i.source.format i.options.bitfields.bpp (masks_in i)) (plain_pack i.source.format)) i.source.width row
+      go : (b : Bool) → is_some i.options.bitfields ≡ b
+          → original_row (cond b (mask_pack i.source.format (bitfields_in i.options).bpp (masks_in i)) (plain_pack i.source.format)) i.source.width row
+          ≡ stored_row (cond b (mask_pack i.source.format (bitfields_in i.options).bpp (masks_in i)) (plain_pack i.source.format)) i.source.width row
       go true e =
-          narrow_row (masks_in i) (bytes_per_pixel i.source.format) (blue_first i.source.format) row small i.options.bitfields.bpp (k.masks e)
+          narrow_row (masks_in i) (bytes_per_pixel i.source.format) (blue_first i.source.format) row small (bitfields_in i.options).bpp (k.masks e)
           (none_of (λ (j : ℕ). is_wide (get_or (masks_in i) j 0)) (rw e at h)) i.source.width
       go false e = plain-same i.source.format i.source.width row
 
@@ -145,13 +147,13 @@ module _ (i : Input) (ok : Typed i) (k : Checked i) where
   rows_same h = cat_ext _ _ i.source.height (λ y _. narrow_same h (row_in i y) (row_small i ok y))
 
   module _ (h : wide_in i ≡ true) where
-    pub masked : i.options.has_bitfields ≡ true
-    masked = (both i.options.has_bitfields (any_wide (masks_in i)) h).0
+    pub masked : is_some i.options.bitfields ≡ true
+    masked = (both (is_some i.options.bitfields) (any_wide (masks_in i)) h).0
 
-    deep : i.options.bitfields.bpp ≡ 32
+    deep : (bitfields_in i.options).bpp ≡ 32
     deep =
-        let at : (j : ℕ) → j < 4 → is_wide (get_or (masks_in i) j 0) ≡ true → i.options.bitfields.bpp ≡ 32 = wide_depth i.options.bitfields.bpp (masks_in i) (k.masks masked) in
-        some_of _ _ _ _ (at 0 (omega arith)) (at 1 (omega arith)) (at 2 (omega arith)) (at 3 (omega arith)) (both i.options.has_bitfields (any_wide (masks_in i)) h).1
+        let at : (j : ℕ) → j < 4 → is_wide (get_or (masks_in i) j 0) ≡ true → (bitfields_in i.options).bpp ≡ 32 = wide_depth (bitfields_in i.options).bpp (masks_in i) (k.masks masked) in
+        some_of _ _ _ _ (at 0 (omega arith)) (at 1 (omega arith)) (at 2 (omega arith)) (at 3 (omega arith)) (both (is_some i.options.bitfields) (any_wide (masks_in i)) h).1
 
     wide_same : (row : List ℕ) → ((j : ℕ) → get_or row j 0 < 256) → (rest : List ℕ)
         → refitted_words (masks_in i) (original_row (pack_in i) i.source.width row ++ rest) ≡ stored_row (pack_in i) i.source.width row ++ refitted_words (masks_in i) rest

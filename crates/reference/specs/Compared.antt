@@ -1,10 +1,8 @@
 -- What the original is handed for a call, and which of its answers is which of document 01's.
-use Rattle.std.specs.Prelude.{ℕ, ◌+◌, ◌-◌, ◌*◌, ◌/◌, ◌^◌, ◌<◌, Bool, true, false, cond, ◌&&◌, ◌||◌, ◌≡◌, List, [], ◌∷◌, ◌++◌, ltb, ℤ, length, get_or, take, drop}
+use Rattle.std.specs.Prelude.{ℕ, ◌+◌, ◌-◌, ◌*◌, ◌/◌, ◌^◌, ◌<◌, Bool, true, false, cond, ◌&&◌, ◌||◌, ◌≡◌, List, [], ◌∷◌, ◌++◌, ltb, ℤ, length, get_or, take, drop, Ok, Err, is_some}
 use Rattle.std.specs.Int.Bits.{bit_and}
 use Rattle.std.specs.Int.{w32}
 use Rattle.std.proofs.Common.{of_z}
-use Rattle.leaves.specs.declared.error.Check.{Check}
-use Rattle.leaves.specs.declared.error.Check.TheVariants as check
 use Rattle.leaves.specs.declared.encoder.EncodedBmpFormat.{EncodedBmpFormat}
 use Rattle.leaves.specs.declared.encoder.EncodedBmpFormat.TheVariants.{Rgb32, Rgb24, Rgb16Rgb, Rgb16Bitfields, Indexed8, Indexed4, Indexed2, Rle8, Rle4, Indexed1, Bitfields, AlphaBitfields}
 use Rattle.leaves.specs.Bytes.{le32}
@@ -12,13 +10,14 @@ use Rattle.leaves.specs.Fit.{repeated}
 use Rattle.leaves.specs.Lists.{tab}
 use Rattle.leaves.specs.Masks.{count, lowest}
 use Rattle.leaves.specs.Put.{put}
-use Rattle.leaves.specs.Refusals.{number_of, first_of, first_number}
+use Rattle.leaves.specs.Refusals.{number_of, first_of, first_number, Check}
 use Rattle.format.specs.File as document
 use Rattle.format.specs.Input.{Input}
 use Rattle.format.specs.Readers.{dword_at}
 use Rattle.format.specs.Refusals.{plan_rows, stream_over_budget}
 use Rattle.leaves.specs.declared.error.Refusal.{Refusal}
 use Rattle.leaves.specs.declared.error.Refusal.TheVariants.{ZeroDimension, DimensionTooLarge, PaletteMissing, PaletteNotQuads, SeveralModes, MaskDepth, MaskAboveDepth, MaskNotOneRun, MaskOverlap, NoColourMask, MaskSource, PlaneTooShort, StrideTooShort, FileTooLarge, BufferTooShort, StreamOverBudget, LimitTooLarge, NegativeResolution, StartsTooShort}
+use Rattle.leaves.specs.Options.{bitfields_in, calibrated_in}
 use Rattle.reference.specs.Rust.{Error, zero_dimension, requires_palette, mutually_exclusive, bitfields_bpp, mask_exceeds, mask_not_contiguous, mask_overlaps, no_colour_mask, bitfields_source, plane_truncated, stride_below_row, pixel_array_overflows, file_overflows, over_limit, not_addressable, rle_over_limit, Kind, InvalidData, Unsupported, kind_of, Run, done, fails, panics, ◌>>=◌, Option, some, none}
 use Rattle.reference.specs.Types.{BmpBitfields, EncodeSource, EncodeOptions}
 use Rattle.reference.specs.Plan.{Plan, new_plan, with_limit, Appended, wrote, refused, write_into, appended, encode_source}
@@ -52,11 +51,11 @@ options_of i =
       top_down = i.options.top_down;
       minimal_palette = i.options.minimal_palette;
       rle = i.options.rle;
-      bitfields = given i.options.has_bitfields (masks_of i.options.bitfields.bpp i.options.bitfields.masks);
+      bitfields = given (is_some i.options.bitfields) (masks_of (bitfields_in i.options).bpp (bitfields_in i.options).masks);
       embed_icc = i.options.embed_icc;
       linked_icc = given i.source.has_linked_icc i.linked;
       rendering_intent = i.options.rendering_intent;
-      calibrated_rgb = given i.options.has_calibrated_rgb i.options.calibrated_rgb;
+      calibrated_rgb = given (is_some i.options.calibrated_rgb) (calibrated_in i.options);
     }
 
 -- ---- what it answers
@@ -115,8 +114,8 @@ outcome panics = panicked
 
 -- the document's answer: the first row of its table that applies, or else this
 abbrev pub answer : {A : Type 0} → Check → A → Outcome A
-answer check.Passed a = gives a
-answer (check.Refused why) a = refuses (number_of why) (rust_kind why)
+answer (Ok passed) a = gives a
+answer (Err why) a = refuses (number_of why) (rust_kind why)
 
 -- ---- the agreed differences
 
@@ -148,8 +147,8 @@ any_wide masks = is_wide (get_or masks 0 0) || is_wide (get_or masks 1 0) || is_
 -- a mask file with its wide channels fitted anew; its pixels begin at bfOffBits
 unfoldable pub with_wide_channels : Input → List ℕ → List ℕ
 with_wide_channels i file =
-    cond (i.options.has_bitfields && any_wide i.options.bitfields.masks)
-    (take (dword_at file 10) file ++ refitted_words i.options.bitfields.masks (drop (dword_at file 10) file))
+    cond ((is_some i.options.bitfields) && any_wide (bitfields_in i.options).masks)
+    (take (dword_at file 10) file ++ refitted_words (bitfields_in i.options).masks (drop (dword_at file 10) file))
     file
 
 -- "RLE files and mask files" (document 02, A.2)
@@ -212,9 +211,9 @@ pub record Typed (i : Input) : Type 0 where
   pub width : i.source.width < 2 ^ 32
   pub height : i.source.height < 2 ^ 32
   pub plane_bytes_is : (k : ℕ) → get_or i.plane k 0 < 256
-  pub masks : (k : ℕ) → get_or i.options.bitfields.masks k 0 < 2 ^ 32
-  pub nine_endpoints : length i.options.calibrated_rgb.endpoints ≡ 9
-  pub three_gammas : length i.options.calibrated_rgb.gamma ≡ 3
+  pub masks : (k : ℕ) → get_or (bitfields_in i.options).masks k 0 < 2 ^ 32
+  pub nine_endpoints : length (calibrated_in i.options).endpoints ≡ 9
+  pub three_gammas : length (calibrated_in i.options).gamma ≡ 3
 
 -- `encoded_size_bound`, of a plan
 abbrev pub size_bound : Run Plan → Run ℕ
@@ -242,7 +241,7 @@ pub record SameAnswers (i : Input) (plan : Run Plan) : Type 0 where
   pub bound : outcome (size_bound plan) ≡ answer (first_of (plan_rows (document.limit_in i) i)) (document.bound_of (document.limit_in i) i)
   pub size : outcome (encode_plan plan >>= size_of) ≡ answer (first_of (file_rows i)) (length (document.file_of (document.limit_in i) i), document.format_of (document.limit_in i) i)
   pub file : outcome (encode_plan plan >>= agreed_file i) ≡ answer (first_of (file_rows i)) (document.file_of (document.limit_in i) i, document.format_of (document.limit_in i) i)
-  pub behind : (out : List ℕ) → (first_of (plan_rows (document.limit_in i) i) ≡ check.Passed → length out + document.bound_of (document.limit_in i) i < 2 ^ 63)
+  pub behind : (out : List ℕ) → (first_of (plan_rows (document.limit_in i) i) ≡ Ok tt → length out + document.bound_of (document.limit_in i) i < 2 ^ 63)
       → outcome (encode_behind plan out >>= agreed_behind i out)
       ≡ answer (first_of (plan_rows (document.limit_in i) i))
       (cond (stream_over_budget (document.limit_in i) i) (refused rle_over_limit out) (wrote (document.format_of (document.limit_in i) i) (out ++ document.file_of (document.limit_in i) i)))

@@ -1,7 +1,7 @@
 // The agreed differences from the original.
 use crate::answers::Answer;
 use crate::head::dword;
-use leaves::buffer::put_u32;
+use leaves::buffer::put_number;
 use leaves::encoder::EncodedBmpFormat;
 use leaves::options::EncodeOptions;
 
@@ -31,7 +31,7 @@ fn fill_image_size(format: u32, file: &mut [u8]) {
         return;
     }
     let bytes = (file.len() - offset) % 0x1_0000_0000;
-    put_u32(file, 34, bytes as u32);
+    put_number(file, 34, bytes as u32);
 }
 
 // biXPelsPerMeter and biYPelsPerMeter, where the original has 2835. What is too short to have them stays.
@@ -39,18 +39,16 @@ fn set_resolutions(pels: [u32; 2], file: &mut [u8]) {
     if file.len() < 54 {
         return;
     }
-    put_u32(file, 38, pels[0]);
-    put_u32(file, 42, pels[1]);
+    put_number(file, 38, pels[0]);
+    put_number(file, 42, pels[1]);
 }
 
 // The eight bits of a sample, repeated from the top down until n bits are full (document 02, A.4).
 fn repeated(sample: u32, n: u32) -> u32 {
     let mut field = 0u32;
-    let mut k = 0;
-    while k < n {
+    for k in 0..n {
         let bit = sample >> (7 - k % 8) & 1;
         field = field << 1 | bit;
-        k += 1;
     }
     field
 }
@@ -84,7 +82,7 @@ fn refit_wide_channels(file: &mut [u8], masks: [u32; 4]) {
     }
     while file.len() - at >= 4 {
         let pixel = dword(file, (at % 0x1_0000_0000) as u32);
-        put_u32(file, at, refit_channels(pixel, masks));
+        put_number(file, at, refit_channels(pixel, masks));
         at += 4;
     }
 }
@@ -103,10 +101,10 @@ pub(crate) fn agreed(
     }
     fill_image_size(wanted.format, file);
     set_resolutions(pels, file);
-    if is_masks(wanted.format) & options.has_bitfields {
-        let fields = options.bitfields;
-        let masks = fields.masks;
-        refit_wide_channels(file, masks);
+    if is_masks(wanted.format) {
+        if let Some(fields) = options.bitfields {
+            refit_wide_channels(file, fields.masks);
+        }
     }
     wanted
 }

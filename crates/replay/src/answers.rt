@@ -1,15 +1,16 @@
 // What the two calls answer, as numbers that can be compared and printed.
 use crate::head::word;
-use crate::printing::{decimal, text, written_name};
+use crate::printing::written_name;
 use leaves::encoder::EncodeSource;
+use leaves::error::Refusal;
 use leaves::options::EncodeOptions;
 use planner::encoder::{Encoded, encode_into};
-use planner::plan::{SizeBound, encoded_size_bound};
+use planner::plan::encoded_size_bound;
 use std::io;
 
 // The writing call's refusal, or 0 with the format's place in written_name and the bytes appended; the size
 // query's refusal, or 0 with the bound.
-#[derive(Clone, Copy)]
+#[derive(Clone, Copy, PartialEq)]
 pub(crate) struct Answer {
     pub(crate) number: u32,
     pub(crate) format: u32,
@@ -28,43 +29,35 @@ pub(crate) fn expected(head: &[u8]) -> Answer {
     }
 }
 
-pub(crate) fn same(a: Answer, b: Answer) -> bool {
-    if a.number != b.number || a.format != b.format || a.bytes != b.bytes {
-        return false;
-    }
-    a.bound_number == b.bound_number && a.bound == b.bound
-}
-
 pub(crate) fn show(rt: &impl Print, a: Answer) -> io::Result<()> {
-    if a.number != 0 {
-        text(rt, b"refusal ")?;
-        decimal(rt, a.number as u64)?;
+    let number = a.number;
+    let bytes = a.bytes;
+    let bound = a.bound;
+    let bound_number = a.bound_number;
+    if number != 0 {
+        print!(rt; "refusal {number}")?;
     } else {
         written_name(rt, a.format as usize)?;
-        text(rt, b" of ")?;
-        decimal(rt, a.bytes as u64)?;
-        text(rt, b" bytes")?;
+        print!(rt; " of {bytes} bytes")?;
     }
-    if a.bound_number == 0 {
-        text(rt, b", bound ")?;
-        decimal(rt, a.bound as u64)?;
-    } else if a.bound_number != a.number {
-        text(rt, b", bound refused with ")?;
-        decimal(rt, a.bound_number as u64)?;
+    if bound_number == 0 {
+        print!(rt; ", bound {bound}")?;
+    } else if bound_number != number {
+        print!(rt; ", bound refused with {bound_number}")?;
     }
     Ok(())
 }
 
-fn written(encoded: Encoded) -> Answer {
+fn written(encoded: Result<Encoded, Refusal>) -> Answer {
     match encoded {
-        Encoded::File(format, bytes) => Answer {
+        Ok(file) => Answer {
             number: 0,
-            format: format.number(),
-            bytes,
+            format: file.format.number(),
+            bytes: file.bytes,
             bound_number: 0,
             bound: 0,
         },
-        Encoded::Refused(why) => Answer {
+        Err(why) => Answer {
             number: why.number(),
             format: 0,
             bytes: 0,
@@ -74,11 +67,11 @@ fn written(encoded: Encoded) -> Answer {
     }
 }
 
-fn with_bound(answer: Answer, bound: SizeBound) -> Answer {
+fn with_bound(answer: Answer, bound: Result<usize, Refusal>) -> Answer {
     let mut whole = answer;
     match bound {
-        SizeBound::Bytes(n) => whole.bound = n,
-        SizeBound::Refused(why) => whole.bound_number = why.number(),
+        Ok(n) => whole.bound = n,
+        Err(why) => whole.bound_number = why.number(),
     }
     whole
 }

@@ -1,13 +1,21 @@
 // A case: its calls are run, and what they answer and write is compared with what is expected.
 use crate::agreed::agreed;
-use crate::answers::{Answer, answered, expected, same, show};
+use crate::answers::{Answer, answered, expected, show};
 use crate::buffer::{differing, fill, space};
 use crate::groups::{count, group_of, mode_of};
 use crate::head::{options_of, source_of, word};
-use crate::printing::{decimal, mode_name, source_name, text};
+use crate::printing::source_name;
 use crate::reading::{count_file, is_read_back};
 use arguments::words::part;
 use std::io;
+
+// How a record's case came out.
+#[derive(Clone, Copy)]
+pub(crate) enum Outcome {
+    Agrees,
+    Differs,
+    Malformed,
+}
 
 // Where the slices end that a case's body holds one behind another.
 #[derive(Drop)]
@@ -61,13 +69,11 @@ fn reads_back(head: &[u8], body: &[u8], file: &[u8]) -> bool {
 }
 
 // A case by its number, what is said of it, and its source format and mode.
-fn case_name(rt: &impl Print, head: &[u8], case: u32, what: &[u8]) -> io::Result<()> {
-    text(rt, b"case ")?;
-    decimal(rt, case as u64)?;
-    text(rt, what)?;
+fn case_name(rt: &impl Print, head: &[u8], case: u32, what: &str) -> io::Result<()> {
+    print!(rt; "case {case} {what}: ")?;
     source_name(rt, word(head, 1) as usize)?;
-    text(rt, b", ")?;
-    mode_name(rt, mode_of(source_of(head), options_of(head)))
+    let mode = mode_of(source_of(head), options_of(head));
+    print!(rt; ", {mode}")
 }
 
 // Counts the file that a case wrote at its offset, if it wrote one, reads it back, and tells where that gives
@@ -88,8 +94,8 @@ fn read_written(
     let read_back = reads_back(head, body, part(behind, 0, came.bytes));
     count_file(files, read_back);
     if !read_back {
-        case_name(rt, head, case, b" is not read back: ")?;
-        text(rt, b"\n")?;
+        case_name(rt, head, case, "is not read back")?;
+        println!(rt)?;
     }
     Ok(())
 }
@@ -102,17 +108,15 @@ fn difference_line(
     came: Answer,
     bytes: usize,
 ) -> io::Result<()> {
-    case_name(rt, head, case, b" differs: ")?;
-    text(rt, b": expected ")?;
+    case_name(rt, head, case, "differs")?;
+    print!(rt; ": expected ")?;
     show(rt, wanted)?;
-    text(rt, b"; came ")?;
+    print!(rt; "; came ")?;
     show(rt, came)?;
-    text(rt, b"; bytes that differ: ")?;
-    decimal(rt, bytes as u64)?;
-    text(rt, b"\n")
+    println!(rt; "; bytes that differ: {bytes}")
 }
 
-// Runs a case in a buffer and answers 1 where something differs, otherwise 0.
+// Runs a case in a buffer.
 fn compared(
     rt: &impl Print,
     case: u32,
@@ -121,7 +125,7 @@ fn compared(
     file: &mut [u8],
     out: &mut [u8],
     files: &mut [u32],
-) -> io::Result<u32> {
+) -> io::Result<Outcome> {
     let pels = [word(head, 39), word(head, 40)];
     let wanted = agreed(options_of(head), pels, expected(head), file);
     let seed = word(head, 26);
@@ -129,14 +133,14 @@ fn compared(
     let came = called(head, body, out);
     let bytes = differing(out, seed, word(head, 24) as usize, file);
     read_written(rt, case, head, body, came, out, files)?;
-    if same(wanted, came) && bytes == 0 {
-        return Ok(0);
+    if wanted == came && bytes == 0 {
+        return Ok(Outcome::Agrees);
     }
     difference_line(rt, head, case, wanted, came, bytes)?;
-    Ok(1)
+    Ok(Outcome::Differs)
 }
 
-// Runs it in a buffer of the case's length; 2 where that is too long.
+// Runs it in a buffer of the case's length.
 fn compared_in_room(
     rt: &impl Print,
     case: u32,
@@ -144,17 +148,17 @@ fn compared_in_room(
     body: &[u8],
     file: &mut [u8],
     files: &mut [u32],
-) -> io::Result<u32> {
+) -> io::Result<Outcome> {
     let room = word(head, 25) as usize;
     let mut out_space = space();
     let out: &mut [u8] = &mut out_space;
     if room > out.len() {
-        return Ok(2);
+        return Ok(Outcome::Malformed);
     }
     compared(rt, case, head, body, file, &mut out[..room], files)
 }
 
-// Runs a record that was read: 0 where all agrees, 1 where not, 2 where it is malformed.
+// Runs a record that was read.
 pub(crate) fn run_record(
     rt: &impl Print,
     case: u32,
@@ -163,10 +167,10 @@ pub(crate) fn run_record(
     file: &mut [u8],
     counts: &mut [u32],
     files: &mut [u32],
-) -> io::Result<u32> {
+) -> io::Result<Outcome> {
     let size = word(head, 31) as usize;
     if size > file.len() {
-        return Ok(2);
+        return Ok(Outcome::Malformed);
     }
     count(counts, group_of(head, expected(head)));
     compared_in_room(rt, case, head, body, &mut file[..size], files)

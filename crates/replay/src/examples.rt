@@ -1,6 +1,6 @@
 // Document 01's examples that are no M lines.
 use crate::answers::{Answer, answered, show};
-use crate::printing::{hex_bytes, text};
+use crate::printing::hex_bytes;
 use crate::reading::{count_file, is_read_back};
 use arguments::words::part;
 use leaves::encoder::EncodeSource;
@@ -44,7 +44,7 @@ fn example(
         let read_back = is_read_back(src, options, plane, &none, icc, icc, file);
         count_file(files, read_back);
         if !read_back {
-            text(rt, b" (not read back)")?;
+            print!(rt; " (not read back)")?;
         }
     }
     Ok(came)
@@ -73,8 +73,8 @@ fn refused(number: u32) -> Answer {
 // An answer with the bytes of the file that the example is about.
 fn show_with(rt: &impl Print, a: Answer, bytes: &[u8]) -> io::Result<()> {
     show(rt, a)?;
-    if bytes.len() != 0 {
-        text(rt, b", with")?;
+    if !bytes.is_empty() {
+        print!(rt; ", with")?;
     }
     hex_bytes(rt, bytes)
 }
@@ -86,18 +86,18 @@ fn line(
     came: Answer,
     came_bytes: &[u8],
 ) -> io::Result<()> {
-    text(rt, b": expected ")?;
+    print!(rt; ": expected ")?;
     show_with(rt, wanted, wanted_bytes)?;
-    text(rt, b"; came ")?;
+    print!(rt; "; came ")?;
     show_with(rt, came, came_bytes)?;
-    text(rt, b"\n")
+    println!(rt)
 }
 
 pub(crate) fn four_by_one(rt: &impl Print, files: &mut [u32]) -> io::Result<()> {
     let mut out_space = [0u8; 128];
     let out: &mut [u8] = &mut out_space;
     let src = picture(BmpPixelFormat::Pal8, 4, 1, 4);
-    text(rt, b"the 4 x 1 grid, stream 4, raw 4")?;
+    print!(rt; "the 4 x 1 grid, stream 4, raw 4")?;
     let came = example(rt, src, minimal(), &[7u8; 4], &[0u8; 0], out, files)?;
     line(
         rt,
@@ -112,7 +112,7 @@ pub(crate) fn one_byte_short(rt: &impl Print, files: &mut [u32]) -> io::Result<(
     let mut out_space = [0u8; 128];
     let out: &mut [u8] = &mut out_space;
     let src = picture(BmpPixelFormat::Pal8, 4, 1, 6);
-    text(rt, b"plane one byte short in its last row's padding")?;
+    print!(rt; "plane one byte short in its last row's padding")?;
     let came = example(rt, src, minimal(), &[7u8; 5], &[0u8; 0], out, files)?;
     line(rt, refused(12), &[0u8; 0], came, &[0u8; 0])
 }
@@ -122,7 +122,7 @@ pub(crate) fn tie(rt: &impl Print, files: &mut [u32]) -> io::Result<()> {
     let mut out_space = [0u8; 128];
     let out: &mut [u8] = &mut out_space;
     let src = picture(BmpPixelFormat::Indexed4, 8, 1, 8);
-    text(rt, b"RLE that ties with raw is not used")?;
+    print!(rt; "RLE that ties with raw is not used")?;
     let came = example(rt, src, minimal(), &[1u8; 8], &[0u8; 0], out, files)?;
     line(
         rt,
@@ -138,7 +138,7 @@ pub(crate) fn cut_first(rt: &impl Print, files: &mut [u32]) -> io::Result<()> {
     let mut out_space = [0u8; 128];
     let out: &mut [u8] = &mut out_space;
     let src = picture(BmpPixelFormat::Indexed4, 9, 1, 9);
-    text(rt, b"RLE4 cuts indices before comparing them")?;
+    print!(rt; "RLE4 cuts indices before comparing them")?;
     let came = example(
         rt,
         src,
@@ -162,7 +162,7 @@ pub(crate) fn last_row(rt: &impl Print, files: &mut [u32]) -> io::Result<()> {
     let mut out_space = [0u8; 128];
     let out: &mut [u8] = &mut out_space;
     let src = picture(BmpPixelFormat::Rgba, 1, 2, 6);
-    text(rt, b"all bytes of the last source row are demanded")?;
+    print!(rt; "all bytes of the last source row are demanded")?;
     let came = example(rt, src, minimal(), &[7u8; 10], &[0u8; 0], out, files)?;
     line(rt, refused(12), &[0u8; 0], came, &[0u8; 0])
 }
@@ -173,7 +173,7 @@ pub(crate) fn profile_place(rt: &impl Print, files: &mut [u32]) -> io::Result<()
     let out: &mut [u8] = &mut out_space;
     let mut src = picture(BmpPixelFormat::Rgba, 1, 1, 4);
     src.has_icc = true;
-    text(rt, b"the profile's place is counted from the info header")?;
+    print!(rt; "the profile's place is counted from the info header")?;
     let came = example(rt, src, minimal(), &[7u8; 4], &[1u8, 2, 3], out, files)?;
     line(
         rt,
@@ -191,7 +191,7 @@ pub(crate) fn width_field(rt: &impl Print, files: &mut [u32]) -> io::Result<()> 
     let mut options = minimal();
     options.top_down = true;
     let src = picture(BmpPixelFormat::Rgba, 3, 2, 12);
-    text(rt, b"the width field is not negated")?;
+    print!(rt; "the width field is not negated")?;
     let came = example(rt, src, options, &[7u8; 24], &[0u8; 0], out, files)?;
     line(
         rt,

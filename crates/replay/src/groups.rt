@@ -3,11 +3,63 @@ ghost use Rattle.std.specs.Prelude.{◌≡◌, length};
 
 use crate::answers::Answer;
 use crate::head::{options_of, source_of, word};
-use crate::printing::{answer_name, decimal, mode_name, source_name, text};
+use crate::printing::{answer_name, source_name};
 use leaves::bitfields::BmpBitfields;
 use leaves::encoder::EncodeSource;
 use leaves::options::EncodeOptions;
-use std::io;
+use std::{fmt, io};
+
+// What a case asks for beside its format.
+#[derive(Clone, Copy)]
+pub(crate) enum Mode {
+    Plain,
+    Masks16,
+    AlphaMasks16,
+    Masks32,
+    AlphaMasks32,
+    Calibrated,
+    EmbeddedProfile,
+    LinkedProfile,
+    BothProfiles,
+    ProfileLeftOut,
+    Several,
+    OtherMasks,
+}
+
+const ALL_MODES: [Mode; MODES] = [
+    Mode::Plain,
+    Mode::Masks16,
+    Mode::AlphaMasks16,
+    Mode::Masks32,
+    Mode::AlphaMasks32,
+    Mode::Calibrated,
+    Mode::EmbeddedProfile,
+    Mode::LinkedProfile,
+    Mode::BothProfiles,
+    Mode::ProfileLeftOut,
+    Mode::Several,
+    Mode::OtherMasks,
+];
+
+impl fmt::Display for Mode {
+    fn fmt<W: fmt::Write>(&self, f: &mut fmt::Formatter<W>) -> fmt::Result {
+        let name = match *self {
+            Mode::Plain => "no mode",
+            Mode::Masks16 => "masks of 16 bits",
+            Mode::AlphaMasks16 => "masks of 16 bits with alpha",
+            Mode::Masks32 => "masks of 32 bits",
+            Mode::AlphaMasks32 => "masks of 32 bits with alpha",
+            Mode::Calibrated => "calibrated",
+            Mode::EmbeddedProfile => "embedded profile",
+            Mode::LinkedProfile => "linked profile",
+            Mode::BothProfiles => "both profiles",
+            Mode::ProfileLeftOut => "profile not embedded",
+            Mode::Several => "several modes",
+            Mode::OtherMasks => "masks of another depth",
+        };
+        write!(f, "{name}")
+    }
+}
 
 // Modes and answers that are counted apart; with 10 source formats that makes 4,560 groups.
 const MODES: usize = 12;
@@ -20,43 +72,39 @@ pub(crate) fn counters() -> [u32; 4560]
     [0; 4560]
 }
 
-fn mask_mode(masks: BmpBitfields) -> usize {
-    if masks.bpp == 16 {
-        return if masks.has_alpha() { 2 } else { 1 };
+fn mask_mode(masks: BmpBitfields) -> Mode {
+    match (masks.bpp, masks.has_alpha()) {
+        (16, false) => Mode::Masks16,
+        (16, true) => Mode::AlphaMasks16,
+        (32, false) => Mode::Masks32,
+        (32, true) => Mode::AlphaMasks32,
+        _ => Mode::OtherMasks,
     }
-    if masks.bpp == 32 {
-        return if masks.has_alpha() { 4 } else { 3 };
-    }
-    11
 }
 
-fn profile_mode(src: EncodeSource, embedded: bool) -> usize {
-    if src.has_linked_icc && embedded {
-        return 8;
+fn profile_mode(src: EncodeSource, embedded: bool) -> Mode {
+    match (src.has_linked_icc, embedded) {
+        (true, true) => Mode::BothProfiles,
+        (true, false) => Mode::LinkedProfile,
+        (false, true) => Mode::EmbeddedProfile,
+        (false, false) if src.has_icc => Mode::ProfileLeftOut,
+        (false, false) => Mode::Plain,
     }
-    if src.has_linked_icc {
-        return 7;
-    }
-    if embedded {
-        return 6;
-    }
-    if src.has_icc { 9 } else { 0 }
 }
 
-// The mode's place in mode_name.
-pub(crate) fn mode_of(src: EncodeSource, options: EncodeOptions) -> usize {
+pub(crate) fn mode_of(src: EncodeSource, options: EncodeOptions) -> Mode {
     let embedded = src.has_icc && options.embed_icc;
     let profile = src.has_linked_icc || embedded;
-    let masks = options.has_bitfields;
-    let calibrated = options.has_calibrated_rgb;
+    let masks = options.bitfields.is_some();
+    let calibrated = options.calibrated_rgb.is_some();
     if masks && calibrated || masks && profile || calibrated && profile {
-        return 10;
+        return Mode::Several;
     }
-    if masks {
-        return mask_mode(options.bitfields);
+    if let Some(bitfields) = options.bitfields {
+        return mask_mode(bitfields);
     }
     if calibrated {
-        return 5;
+        return Mode::Calibrated;
     }
     profile_mode(src, embedded)
 }
@@ -78,17 +126,14 @@ fn answer_of(answer: Answer, stream: u32) -> usize {
 
 pub(crate) fn group_of(head: &[u8], answer: Answer) -> usize {
     let format = (word(head, 1) % 10) as usize;
-    let mode = mode_of(source_of(head), options_of(head));
+    let mode = mode_of(source_of(head), options_of(head)) as usize;
     let place = answer_of(answer, word(head, 36));
-    (format * MODES + mode % MODES) * ANSWERS + place % ANSWERS
+    (format * MODES + mode) * ANSWERS + place % ANSWERS
 }
 
 pub(crate) fn count(counts: &mut [u32], group: usize) {
     if group < counts.len() {
-        let n = counts[group];
-        if n < 0xFFFF_FFFF {
-            counts[group] = n + 1;
-        }
+        counts[group] = counts[group].saturating_add(1);
     }
 }
 
@@ -97,18 +142,15 @@ fn group_line(rt: &impl Print, group: usize, n: u32) -> io::Result<()> {
         return Ok(());
     }
     source_name(rt, group / ANSWERS / MODES)?;
-    text(rt, b", ")?;
-    mode_name(rt, group / ANSWERS % MODES)?;
-    text(rt, b", ")?;
+    let mode = ALL_MODES[group / ANSWERS % MODES];
+    print!(rt; ", {mode}, ")?;
     answer_name(rt, group % ANSWERS)?;
-    text(rt, b": ")?;
-    decimal(rt, n as u64)?;
-    text(rt, b"\n")
+    println!(rt; ": {n}")
 }
 
 pub(crate) fn group_lines(rt: &impl Print, counts: &[u32]) -> io::Result<()> {
-    for group in 0..counts.len() {
-        group_line(rt, group, counts[group])?;
+    for (group, n) in counts.iter().enumerate() {
+        group_line(rt, group, *n)?;
     }
     Ok(())
 }

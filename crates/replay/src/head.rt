@@ -1,6 +1,4 @@
 // A record's head: the words of a call and of what is expected of it (bench/replay/README.md lists them).
-ghost use Rattle.std.specs.Prelude.{◌<◌};
-
 use leaves::bitfields::BmpBitfields;
 use leaves::encoder::EncodeSource;
 use leaves::image::BmpPixelFormat;
@@ -10,23 +8,19 @@ use leaves::options::{CalibratedRgb, EncodeOptions};
 pub(crate) const WORDS: usize = 41;
 
 // The byte at a place; 0 past the end.
-fn byte_at(bytes: &[u8], at: usize) -> u32
-    ensures { result < 256 }
-{
-    if at < bytes.len() {
-        return bytes[at] as u32;
-    }
-    0
+fn byte_at(bytes: &[u8], at: usize) -> u8 {
+    bytes.get(at).copied().unwrap_or(0)
 }
 
 // The four bytes at a place among the first 2^32, low byte first; 0 past the end.
 pub(crate) fn dword(bytes: &[u8], at: u32) -> u32 {
     let place = at as usize;
-    let a = byte_at(bytes, place);
-    let b = byte_at(bytes, place + 1);
-    let c = byte_at(bytes, place + 2);
-    let d = byte_at(bytes, place + 3);
-    a + 256 * b + 65536 * c + 16777216 * d
+    u32::from_le_bytes([
+        byte_at(bytes, place),
+        byte_at(bytes, place + 1),
+        byte_at(bytes, place + 2),
+        byte_at(bytes, place + 3),
+    ])
 }
 
 // Word k; 0 past the end.
@@ -44,11 +38,7 @@ fn has(head: &[u8], flag: u32) -> bool {
 
 // 32 bits as a signed number.
 fn signed(bits: u32) -> i32 {
-    if bits < 0x8000_0000 {
-        return bits as i32;
-    }
-    let below = (0xFFFF_FFFF - bits) as i32;
-    !below
+    i32::from_le_bytes(bits.to_le_bytes())
 }
 
 fn pixel_format(n: u32) -> BmpPixelFormat {
@@ -91,10 +81,8 @@ fn masks_of(head: &[u8]) -> BmpBitfields {
 
 fn calibrated_of(head: &[u8]) -> CalibratedRgb {
     let mut endpoints = [0i32; 9];
-    let mut k = 0;
-    while k < 9 {
+    for k in 0..9 {
         endpoints[k] = signed(word(head, 12 + k));
-        k += 1;
     }
     let red = word(head, 21);
     let green = word(head, 22);
@@ -117,12 +105,10 @@ pub(crate) fn options_of(head: &[u8]) -> EncodeOptions {
         top_down: has(head, 8),
         minimal_palette: has(head, 16),
         rle: has(head, 32),
-        has_bitfields: has(head, 128),
-        bitfields,
+        bitfields: has(head, 128).then_some(bitfields),
         embed_icc: has(head, 64),
         rendering_intent: word(head, 11),
-        has_calibrated_rgb: has(head, 256),
-        calibrated_rgb,
+        calibrated_rgb: has(head, 256).then_some(calibrated_rgb),
         limit: limit_of(head),
         x_pels_per_meter: signed(word(head, 39)),
         y_pels_per_meter: signed(word(head, 40)),

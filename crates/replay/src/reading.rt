@@ -3,10 +3,9 @@ ghost use Rattle.std.specs.Prelude.{◌≡◌, length};
 
 use crate::buffer::{differing, fill, pattern};
 use crate::groups::count;
-use crate::printing::{decimal, text};
 use crate::shown::{
-    Colour, byte_of, bytes_each, colour_at, cut, depth_of, entries_of, further, head_bytes,
-    index_count, table_byte, tail_of,
+    Colour, byte_of, bytes_each, colour_at, cut, depth_of, entries_of, head_bytes, index_count,
+    table_byte, tail_of,
 };
 use crate::starts::is_read_by_rows;
 use arguments::words::part;
@@ -30,17 +29,14 @@ pub(crate) fn cell_space() -> [u32; 32768]
 }
 
 fn number_at(numbers: &[u32], k: usize) -> u32 {
-    if k < numbers.len() {
-        return numbers[k];
-    }
-    0
+    numbers.get(k).copied().unwrap_or(0)
 }
 
 fn is_colour(cells: &[u32], k: usize, colour: Colour) -> bool {
     let red = number_at(cells, k) == colour.red;
-    let green = number_at(cells, further(k, 1)) == colour.green;
-    let blue = number_at(cells, further(k, 2)) == colour.blue;
-    let alpha = number_at(cells, further(k, 3)) == colour.alpha;
+    let green = number_at(cells, k.saturating_add(1)) == colour.green;
+    let blue = number_at(cells, k.saturating_add(2)) == colour.blue;
+    let alpha = number_at(cells, k.saturating_add(3)) == colour.alpha;
     red & green & blue & alpha
 }
 
@@ -87,28 +83,21 @@ pub(crate) fn is_row(
 ) -> bool {
     let format = src.format;
     let width = src.width;
-    let mut all = true;
     let mut at = start;
     let mut k = from;
-    let mut x = 0;
-    while x < width {
-        all = all & is_cell(format, options, plane, at, cells, k);
-        at = further(at, bytes_each(format));
-        k = further(k, numbers_each(format));
-        x += 1;
+    for _ in 0..width {
+        if !is_cell(format, options, plane, at, cells, k) {
+            return false;
+        }
+        at = at.saturating_add(bytes_each(format));
+        k = k.saturating_add(numbers_each(format));
     }
-    all
+    true
 }
 
 // Whether the numbers from a place on are as they were lent.
 pub(crate) fn is_unread(cells: &[u32], from: usize) -> bool {
-    let mut all = true;
-    let mut k = from;
-    while k < cells.len() {
-        all = all & (cells[k] == UNREAD);
-        k += 1;
-    }
-    all
+    cells.iter().skip(from).all(|cell| *cell == UNREAD)
 }
 
 // Whether the numbers are those of the plane's cells, row by row from the top, and none behind them changed.
@@ -117,59 +106,44 @@ fn is_plane(src: EncodeSource, options: EncodeOptions, plane: &[u8], cells: &[u3
     let stride = src.stride;
     let format = src.format;
     let numbers = numbers_in(format, src.width);
-    let mut all = true;
-    let mut at = 0;
-    let mut k = 0;
-    let mut y = 0;
-    while y < height {
-        all = all & is_row(src, options, plane, at, cells, k);
-        at = further(at, stride);
-        k = further(k, numbers);
-        y += 1;
+    let mut at: usize = 0;
+    let mut k: usize = 0;
+    for _ in 0..height {
+        if !is_row(src, options, plane, at, cells, k) {
+            return false;
+        }
+        at = at.saturating_add(stride);
+        k = k.saturating_add(numbers);
     }
-    all & is_unread(cells, k)
+    is_unread(cells, k)
 }
 
 // Whether the table is filled from the palette, and no byte behind its entries changed.
 fn is_table(table: &[u8], palette: &[u8], entries: usize) -> bool {
-    let mut all = true;
-    let mut k = 0;
-    while k < table.len() {
+    table.iter().enumerate().all(|(k, byte)| {
         let wanted = if k / 4 < entries {
             table_byte(palette, k)
         } else {
             pattern(SEED, k)
         };
-        all = all & (table[k] == wanted);
-        k += 1;
-    }
-    all
-}
-
-fn is_same(a: &[u8], b: &[u8]) -> bool {
-    let mut all = a.len() == b.len();
-    let mut k = 0;
-    while k < a.len() {
-        all = all & (a[k] == byte_of(b, k));
-        k += 1;
-    }
-    all
+        *byte == wanted
+    })
 }
 
 // Whether the profile is the tail, at the file's end; an empty one has the place 0.
 fn is_profile(file: &[u8], start: usize, bytes: usize, tail: &[u8]) -> bool {
-    let end = further(start, bytes);
+    let end = start.saturating_add(bytes);
     let placed = if bytes == 0 {
         start == 0
     } else {
         end == file.len()
     };
-    placed & (bytes == tail.len()) & is_same(part(file, start, end), tail)
+    placed & (bytes == tail.len()) & (part(file, start, end) == tail)
 }
 
 fn is_size(src: EncodeSource, options: EncodeOptions, reading: Reading) -> bool {
     let size = (reading.width == src.width) & (reading.height == src.height);
-    size & (reading.refusal == 0) & (reading.depth == depth_of(src, options))
+    size & (reading.depth == depth_of(src, options))
 }
 
 // Whether a file is read back: size, depth, head, table, cells and profile are what was handed in, and each row alone is
@@ -191,7 +165,9 @@ pub(crate) fn is_read_back<'a>(
     let cells: &mut [u32] = &mut cells_space;
     fill(head, SEED);
     fill(table, SEED);
-    let reading = read(file, head, table, cells);
+    let Ok(reading) = read(file, head, table, cells) else {
+        return false;
+    };
     let size = is_size(src, options, reading);
     let filed = differing(head, SEED, 0, part(file, 0, head_bytes(src, options))) == 0;
     let format = src.format;
@@ -213,9 +189,7 @@ pub(crate) fn count_file(files: &mut [u32], read_back: bool) {
 }
 
 pub(crate) fn files_line(rt: &impl Print, files: &[u32]) -> io::Result<()> {
-    text(rt, b"read back ")?;
-    decimal(rt, number_at(files, 1) as u64)?;
-    text(rt, b" of ")?;
-    decimal(rt, number_at(files, 0) as u64)?;
-    text(rt, b" files, whole and row by row\n")
+    let read_back = number_at(files, 1);
+    let written = number_at(files, 0);
+    println!(rt; "read back {read_back} of {written} files, whole and row by row")
 }

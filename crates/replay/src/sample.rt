@@ -2,10 +2,9 @@
 ghost use Rattle.std.specs.Prelude.{◌≤◌, length, IfOk};
 
 use crate::buffer::space;
-use crate::cases::run_record;
+use crate::cases::{Outcome, run_record};
 use crate::groups::{counters, group_lines};
 use crate::head::{WORDS, word};
-use crate::printing::{decimal, text};
 use crate::reading::files_line;
 use std::io;
 use std::io::Read;
@@ -72,7 +71,7 @@ fn step(
     case: u32,
     counts: &mut [u32],
     files: &mut [u32],
-) -> io::Result<u32> {
+) -> io::Result<Outcome> {
     let mut head_space = [0u8; 164];
     let head: &mut [u8] = &mut head_space;
     let mut body_space = space();
@@ -80,7 +79,7 @@ fn step(
     let mut file_space = space();
     let file: &mut [u8] = &mut file_space;
     if !read_record(input, head, body, file)? {
-        return Ok(2);
+        return Ok(Outcome::Malformed);
     }
     run_record(rt, case, head, body, file, counts, files)
 }
@@ -99,23 +98,20 @@ fn replayed(
     counts: &mut [u32],
     files: &mut [u32],
 ) -> io::Result<Tally> {
-    let mut done = 0;
     let mut differ = 0;
-    while done < cases {
-        let outcome = step(rt, input, done, counts, files)?;
-        if outcome > 1 {
-            return Ok(Tally {
-                cases: done,
-                differ,
-            });
+    for done in 0..cases {
+        match step(rt, input, done, counts, files)? {
+            Outcome::Agrees => {}
+            Outcome::Differs => differ += 1,
+            Outcome::Malformed => {
+                return Ok(Tally {
+                    cases: done,
+                    differ,
+                });
+            }
         }
-        differ += outcome;
-        done += 1;
     }
-    Ok(Tally {
-        cases: done,
-        differ,
-    })
+    Ok(Tally { cases, differ })
 }
 
 fn at_end(input: &mut impl Read) -> io::Result<bool> {
@@ -126,16 +122,11 @@ fn at_end(input: &mut impl Read) -> io::Result<bool> {
 // Whether the whole sample was read.
 fn read_whole(rt: &impl Print, input: &mut impl Read, cases: u32, done: u32) -> io::Result<bool> {
     if done < cases {
-        text(
-            rt,
-            b"the sample is malformed or short after this many cases: ",
-        )?;
-        decimal(rt, done as u64)?;
-        text(rt, b"\n")?;
+        println!(rt; "the sample is malformed or short after this many cases: {done}")?;
         return Ok(false);
     }
     if !at_end(input)? {
-        text(rt, b"the sample goes on past its last case\n")?;
+        println!(rt; "the sample goes on past its last case")?;
         return Ok(false);
     }
     Ok(true)
@@ -146,7 +137,7 @@ pub(crate) fn sample(rt: &impl Print, input: &mut impl Read) -> io::Result<bool>
     let mut start_space = [0u8; 8];
     let start: &mut [u8] = &mut start_space;
     if !read_exactly(input, start, 8)? || word(start, 0) != SAMPLE {
-        text(rt, b"the input is no sample\n")?;
+        println!(rt; "the input is no sample")?;
         return Ok(false);
     }
     let cases = word(start, 1);
@@ -156,10 +147,11 @@ pub(crate) fn sample(rt: &impl Print, input: &mut impl Read) -> io::Result<bool>
     let files: &mut [u32] = &mut files_space;
     let tally = replayed(rt, input, cases, counts, files)?;
     group_lines(rt, counts)?;
-    decimal(rt, tally.cases as u64)?;
-    text(rt, b" cases, ")?;
-    decimal(rt, tally.differ as u64)?;
-    text(rt, b" differ\n")?;
+    let Tally {
+        cases: done,
+        differ,
+    } = tally;
+    println!(rt; "{done} cases, {differ} differ")?;
     files_line(rt, files)?;
-    read_whole(rt, input, cases, tally.cases)
+    read_whole(rt, input, cases, done)
 }

@@ -6,25 +6,9 @@ use leaves::image::BmpPixelFormat;
 use leaves::options::EncodeOptions;
 use leaves::widening::widening_table;
 
-// The sum, or the largest number where it would be larger.
-pub(crate) fn further(a: usize, b: usize) -> usize {
-    let room = 0xFFFF_FFFF_FFFF_FFFF - b;
-    if a > room {
-        return 0xFFFF_FFFF_FFFF_FFFF;
-    }
-    a + b
-}
-
 // The byte at a place; 0 past the end.
 pub(crate) fn byte_of(bytes: &[u8], at: usize) -> u8 {
-    if at < bytes.len() {
-        return bytes[at];
-    }
-    0
-}
-
-fn wide(sample: u8) -> u32 {
-    sample as u32
+    bytes.get(at).copied().unwrap_or(0)
 }
 
 // How many indices the file's depth has; 0 for direct colour.
@@ -66,14 +50,9 @@ fn plain_depth(format: BmpPixelFormat) -> u32 {
     }
 }
 
-fn mask_depth(bpp: u16) -> u32 {
-    bpp as u32
-}
-
 pub(crate) fn depth_of(src: EncodeSource, options: EncodeOptions) -> u32 {
-    if options.has_bitfields {
-        let fields = options.bitfields;
-        return mask_depth(fields.bpp);
+    if let Some(fields) = options.bitfields {
+        return u32::from(fields.bpp);
     }
     let format = src.format;
     plain_depth(format)
@@ -89,11 +68,8 @@ pub(crate) fn head_bytes(src: EncodeSource, options: EncodeOptions) -> usize {
         return 138;
     }
     let format = src.format;
-    let wider = match format {
-        BmpPixelFormat::Rgb565 => true,
-        _ => false,
-    };
-    if options.has_calibrated_rgb | wider {
+    let wider = matches!(format, BmpPixelFormat::Rgb565);
+    if options.calibrated_rgb.is_some() | wider {
         return 122;
     }
     54
@@ -112,7 +88,7 @@ pub(crate) fn tail_of<'a>(
     if src.has_icc & options.embed_icc {
         return icc;
     }
-    &icc[0..0]
+    b""
 }
 
 // Entries of the colour table for a palette of so many bytes.
@@ -122,10 +98,7 @@ pub(crate) fn entries_of(format: BmpPixelFormat, minimal: bool, palette: usize) 
     if !minimal | (given >= full) {
         return full;
     }
-    if given < 1 {
-        return 1;
-    }
-    given
+    given.max(1)
 }
 
 // Byte k of a colour table: blue, green, red and 0 of an entry that is lent as red, green, blue and alpha.
@@ -142,7 +115,7 @@ pub(crate) fn cut(index: u8, count: u32) -> u32 {
     if count == 0 {
         return 0;
     }
-    wide(index) % count
+    u32::from(index) % count
 }
 
 #[derive(Drop)]
@@ -184,8 +157,7 @@ fn fitted(sample: u8, mask: u32) -> u32 {
 
 // The samples as they are, without alpha; in mask mode each fitted to its mask.
 fn samples(options: EncodeOptions, red: u8, green: u8, blue: u8, alpha: u8) -> Colour {
-    if options.has_bitfields {
-        let fields = options.bitfields;
+    if let Some(fields) = options.bitfields {
         let masks = fields.masks;
         return Colour {
             red: fitted(red, masks[0]),
@@ -195,15 +167,15 @@ fn samples(options: EncodeOptions, red: u8, green: u8, blue: u8, alpha: u8) -> C
         };
     }
     Colour {
-        red: wide(red),
-        green: wide(green),
-        blue: wide(blue),
+        red: u32::from(red),
+        green: u32::from(green),
+        blue: u32::from(blue),
         alpha: 0,
     }
 }
 
 fn word_of(low: u8, high: u8) -> u32 {
-    low as u32 + 256 * (high as u32)
+    u32::from(u16::from_le_bytes([low, high]))
 }
 
 // What must be shown of the cell of direct colour at a place of the plane. A missing alpha sample is 255.
@@ -214,9 +186,9 @@ pub(crate) fn colour_at(
     at: usize,
 ) -> Colour {
     let a = byte_of(plane, at);
-    let b = byte_of(plane, further(at, 1));
-    let c = byte_of(plane, further(at, 2));
-    let d = byte_of(plane, further(at, 3));
+    let b = byte_of(plane, at.saturating_add(1));
+    let c = byte_of(plane, at.saturating_add(2));
+    let d = byte_of(plane, at.saturating_add(3));
     match format {
         BmpPixelFormat::Rgba => samples(options, a, b, c, d),
         BmpPixelFormat::Rgb24 => samples(options, a, b, c, 255),

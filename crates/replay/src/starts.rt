@@ -3,9 +3,9 @@ ghost use Rattle.std.specs.Prelude.{◌≡◌, length};
 
 use crate::buffer::{differing, fill, space};
 use crate::reading::{cell_space, is_row, is_unread, numbers_in};
-use crate::shown::further;
 use arguments::words::part;
 use leaves::encoder::EncodeSource;
+use leaves::error::Refusal;
 use leaves::options::EncodeOptions;
 use planner::encoder::{Encoded, encode_with_starts};
 use reader::row::read_row;
@@ -23,27 +23,18 @@ fn start_space() -> [u64; 16400]
 }
 
 fn start_at(starts: &[u64], s: usize) -> u64 {
-    if s < starts.len() {
-        return starts[s];
-    }
-    0
+    starts.get(s).copied().unwrap_or(0)
 }
 
 // Whether the entries from a place on are as they were lent.
 fn is_unset(starts: &[u64], from: usize) -> bool {
-    let mut all = true;
-    let mut s = from;
-    while s < starts.len() {
-        all = all & (starts[s] == UNSET);
-        s += 1;
-    }
-    all
+    starts.iter().skip(from).all(|start| *start == UNSET)
 }
 
-fn number_of(answer: Encoded) -> u32 {
+fn number_of(answer: Result<Encoded, Refusal>) -> u32 {
     match answer {
-        Encoded::File(_, _) => 0,
-        Encoded::Refused(why) => why.number(),
+        Ok(_) => 0,
+        Err(why) => why.number(),
     }
 }
 
@@ -62,13 +53,13 @@ fn are_rows(
     let format = src.format;
     let numbers = numbers_in(format, src.width);
     let mut all = true;
-    let mut at = 0;
+    let mut at: usize = 0;
     let mut y = 0;
     while y < height {
         let stored = if options.top_down { y } else { height - 1 - y };
-        let number = read_row(file, start_at(starts, stored), cells);
-        all = all & (number == 0) & is_row(src, options, plane, at, cells, 0);
-        at = further(at, stride);
+        let read = read_row(file, start_at(starts, stored), cells);
+        all = all & read.is_ok() & is_row(src, options, plane, at, cells, 0);
+        at = at.saturating_add(stride);
         y += 1;
     }
     all & is_unread(cells, numbers)

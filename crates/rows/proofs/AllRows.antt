@@ -1,5 +1,5 @@
 -- Laws of stored rows: what each case of a row's packing asks and gives, and all rows of a plane.
-use Rattle.std.proofs.Common.{◌≡◌, ℕ, ◌+◌, ◌-◌, ◌*◌, ◌/◌, ◌<◌, ◌≤◌, Bool, true, false, ◌⊎◌, List, length, get_or, take, drop, set, sym, refl, ap, ◌∙◌, mul-le-mul_right, suc-mul, mul_comm, mul-one, arith, length-append, length-drop, length-set, length-take, length-take-le, eqb-true}
+use Rattle.std.proofs.Common.{◌≡◌, ℕ, ◌+◌, ◌-◌, ◌*◌, ◌/◌, ◌<◌, ◌≤◌, Bool, true, false, ◌⊎◌, List, length, get_or, take, drop, set, sym, refl, ap, ◌∙◌, mul-le-mul_right, suc-mul, mul_comm, mul-one, arith, length-append, length-drop, length-take, length-take-le, eqb-true}
 use mathlib.Core.Bool.{false≢true}
 use lib.ListN.{length-replicate}
 use Rattle.rows.specs.declared.masks.MaskLayout.{MaskLayout}
@@ -12,10 +12,9 @@ use Rattle.rows.specs.Packing.{packed}
 use Rattle.rows.specs.Starts.{noted}
 use Rattle.rows.specs.StoredRows.{padded, cell24, cell32, mask_cell, stored_row, pack_bits, pack_bytes, LayoutOk, PackOk, fields_of, FieldsOk, in_mask_mode, is_copied, row_of, source_row, stored_rows}
 use Rattle.leaves.proofs.ListLaws.{length-tab, cat_ext, length-cat}
-use Rattle.leaves.proofs.Puts.{length-put}
 use Rattle.rows.proofs.Cells.{copied24, copied32}
 use Rattle.rows.proofs.PackLaws.{packed_8, part_small, put_cell}
-use Rattle.rows.proofs.MaskCells.{no_cells, all_put, next_place, length-mask_cell, cells_fit}
+use Rattle.rows.proofs.MaskCells.{no_cells, all_put, length-mask_cell, cells_fit}
 use Rattle.rows.proofs.StartLaws.{noted_start, noted_turn, noted_end}
 
 -- what is asked of source and buffer for a packing is asked for the case that it is
@@ -54,10 +53,6 @@ masks_ask p n bgr layout fields w m at l e ok h k t =
     let good = masks_good p n bgr layout e ok in
     (good.1, (good.0, (rw e at h, (rw e at k, rw e at t))))
 
--- what a packing reads is what the case that it is reads
-pub case_reads : (p q : RowPack) (fields : List ℕ) → p ≡ q → FieldsOk q fields → FieldsOk p fields
-case_reads p q fields e ok = rw e ok
-
 -- other rows read no fields
 pub no_fields : (p : RowPack) (fields : List ℕ) → in_mask_mode p ≡ false → FieldsOk p fields
 no_fields (Bgra32 bgr) fields e = tt
@@ -87,7 +82,7 @@ length-stored_row (Masks n bgr layout) ok w row h =
     length-cells (mask_cell layout n bgr row) (layout.bpp / 8) (row_stride w layout.bpp) w (length-mask_cell layout n bgr row ok.1.depth) (cells_fit w layout.bpp ok.1.depth)
 
 -- the source row of a stored row is one of the picture's
-row_of_below : (is_top_down : Bool) (h s : ℕ) → s < h → row_of is_top_down h s < h
+pub row_of_below : (is_top_down : Bool) (h s : ℕ) → s < h → row_of is_top_down h s < h
 row_of_below true h s l = l
 row_of_below false h s l = omega arith
 
@@ -128,37 +123,31 @@ length-stored_rows pack ok w h is_top_down plane stride =
 -- ---- the loops over all rows
 
 -- what holds before the stored row y, each of `stored` bytes: the rows before it stand in the buffer from `at` on, and their starts are noted
-abbrev pub SoFar : (ℕ → List ℕ) → ℕ → ℕ → ℕ → ℕ → List ℕ → List ℕ → List ℕ → List ℕ → ℕ → ℕ → Type 0
-SoFar row stored at origin h dst₀ starts₀ dst starts o y =
-    (y ≤ h) × (o ≡ at + y * stored) × (length dst ≡ length dst₀) × (dst ≡ put dst₀ at (cat row y))
-    × (length starts ≡ length starts₀) × (starts ≡ noted (λ s. at - origin + s * stored) starts₀ y)
+abbrev pub SoFar : (ℕ → List ℕ) → ℕ → ℕ → ℕ → List ℕ → List ℕ → List ℕ → List ℕ → ℕ → Type 0
+SoFar row stored at origin dst₀ starts₀ dst starts y = (dst ≡ put dst₀ at (cat row y)) × (starts ≡ noted (λ s. at - origin + s * stored) starts₀ y)
 
-module _ (row : ℕ → List ℕ) (stored at origin h : ℕ) (dst₀ starts₀ : List ℕ) where
-  pub rows_start : SoFar row stored at origin h dst₀ starts₀ dst₀ starts₀ at 0
-  rows_start = (omega arith, omega arith, refl, no_cells row dst₀ at, refl, noted_start (λ s. at - origin + s * stored) starts₀)
+-- the next row has room
+pub row_room : (stored at h y n m : ℕ) → y < h → at + stored * h ≤ n → m ≡ n → at + y * stored + stored ≤ m
+row_room stored at h y n m k g e = omega (arith, mul_comm stored h, suc-mul y stored, mul-le-mul_right stored k)
 
-  module _ (dst starts : List ℕ) (o y : ℕ) (so_far : SoFar row stored at origin h dst₀ starts₀ dst starts o y) where
-    -- the next row has room
-    pub row_room : y < h → at + stored * h ≤ length dst₀ → o + stored ≤ length dst
-    row_room k g = omega (arith, mul_comm stored h, suc-mul y stored, mul-le-mul_right stored k)
+module _ (row : ℕ → List ℕ) (stored at origin : ℕ) (dst₀ starts₀ : List ℕ) where
+  pub rows_start : SoFar row stored at origin dst₀ starts₀ dst₀ starts₀ 0
+  rows_start = (no_cells row dst₀ at, noted_start (λ s. at - origin + s * stored) starts₀)
 
+  module _ (dst starts : List ℕ) (y : ℕ) (so_far : SoFar row stored at origin dst₀ starts₀ dst starts y) where
     -- one row more
-    pub rows_turn : (later_dst later_starts : List ℕ) (q : ℕ) → ((s : ℕ) → length (row s) ≡ stored) → origin ≤ at → y < h → at + stored * h ≤ length dst₀
-        → later_dst ≡ put dst o (row y) → later_starts ≡ set starts y (o - origin) → q ≡ o + stored
-        → SoFar row stored at origin h dst₀ starts₀ later_dst later_starts q (y + 1)
-    rows_turn later_dst later_starts q size k l g e f m =
-        let room = row_room l g in (
-          omega arith,
-          next_place at y stored o q so_far.1 m,
-          rw e (length-put dst o (row y) (omega (arith, size y))) ∙ so_far.2,
-          put_cell dst₀ dst later_dst at stored y (y + 1) o row size so_far.3 e so_far.1 refl (omega arith),
-          rw f (length-set starts y (o - origin)) ∙ so_far.4,
-          noted_turn (λ s. at - origin + s * stored) starts₀ starts later_starts y (o - origin) so_far.5 (omega arith) f,
+    pub rows_turn : (later_dst later_starts : List ℕ) (h : ℕ) → ((s : ℕ) → length (row s) ≡ stored) → origin ≤ at → y < h → at + stored * h ≤ length dst₀
+        → later_dst ≡ put dst (at + y * stored) (row y) → later_starts ≡ set starts y (at + y * stored - origin)
+        → SoFar row stored at origin dst₀ starts₀ later_dst later_starts (y + 1)
+    rows_turn later_dst later_starts h size k l g e f =
+        let room = row_room stored at h y (length dst₀) (length dst₀) l g refl in (
+          put_cell dst₀ dst later_dst at stored y (y + 1) (at + y * stored) row size so_far.0 e refl refl (omega arith),
+          noted_turn (λ s. at - origin + s * stored) starts₀ starts later_starts y (at + y * stored - origin) so_far.1 (omega arith) f,
         )
 
     -- and all rows
-    pub rows_end : h ≤ y → (dst ≡ put dst₀ at (cat row h)) × (starts ≡ noted (λ s. at - origin + s * stored) starts₀ h)
-    rows_end l = (all_put row dst₀ dst at y h (omega arith) so_far.3, noted_end (λ s. at - origin + s * stored) starts₀ starts y h (omega arith) so_far.5)
+    pub rows_end : (h : ℕ) → y ≡ h → (dst ≡ put dst₀ at (cat row h)) × (starts ≡ noted (λ s. at - origin + s * stored) starts₀ h)
+    rows_end h l = (all_put row dst₀ dst at y h l so_far.0, noted_end (λ s. at - origin + s * stored) starts₀ starts y h l so_far.1)
 
 -- ---- rows that are stored as they are
 
@@ -170,7 +159,7 @@ pub length_copy_at : (stored bytes h : ℕ) (is_top_down : Bool) (plane : List �
 length_copy_at stored bytes h is_top_down plane stride s fits = length-padded stored (source_row plane stride bytes (row_of is_top_down h s)) (simp length-take (omega arith))
 
 -- a source row is as long as its pixels
-length_source : (plane : List ℕ) (stride n h y : ℕ) → n ≤ stride → stride * h ≤ length plane → y < h → length (source_row plane stride n y) ≡ n
+pub length_source : (plane : List ℕ) (stride n h y : ℕ) → n ≤ stride → stride * h ≤ length plane → y < h → length (source_row plane stride n y) ≡ n
 length_source plane stride n h y inside long l =
     length-take-le n (drop (y * stride) plane)
     (omega (arith, length-drop (y * stride) plane, row_within y h stride n 1 1 (length plane) l refl (omega arith) long))

@@ -1,6 +1,7 @@
 -- Laws of 24- and 32-bit cells: a row with blue first is its own cells, and a word is the bytes that it is made of.
 use Rattle.std.proofs.Common.{◌≡◌, ℕ, zero, suc, ◌+◌, ◌-◌, ◌*◌, ◌/◌, ◌%◌, ◌<◌, ◌≤◌, Bool, true, false, ◌⊎◌, List, [], ◌∷◌, ◌++◌, length, get_or, take, drop, replicate, sym, refl, ap, ◌∙◌, inl, inr, append_assoc, append-nil, le_of_suc-le-suc, not-suc-le-zero, add-zero, mul-le-mul_right, suc-mul, eq-or-lt_of_le, zero-mul, add-one, arith, length-append, length-drop, drop_of_length-le, take-suc, drop-drop, drop_at}
 use lib.Seq.{take-length, drop-append-le}
+use Rattle.std.specs.Int.{w32, from_le_bytes}
 use Rattle.rows.specs.declared.pack.RowPack.TheVariants.{Bgra32, Bgr24}
 use Rattle.leaves.specs.Bytes.{le32}
 use Rattle.leaves.specs.Lists.{tab, cat}
@@ -76,12 +77,16 @@ bytes_of a b c d v ha hb hc hd e =
     let r = low (v / 256 / 256) c d hc (omega arith) in
     (p.0, q.0, r.0, r.1)
 
-pub word_bytes : (a b c d : ℕ) → a < 256 → b < 256 → c < 256 → d < 256 → le32 (a + b * 256 + c * 65536 + d * 16777216) ≡ a ∷ b ∷ c ∷ d ∷ []
+word_bytes : (a b c d : ℕ) → a < 256 → b < 256 → c < 256 → d < 256 → le32 (a + b * 256 + c * 65536 + d * 16777216) ≡ a ∷ b ∷ c ∷ d ∷ []
 unfolding le32
 word_bytes a b c d ha hb hc hd =
     let k = bytes_of a b c d (a + b * 256 + c * 65536 + d * 16777216) ha hb hc hd refl in
     let n : d % 256 ≡ d = omega arith in
     rw (k.0, k.1, k.2, k.3, n)
+
+-- the same of a number that std makes of them
+pub le32_made : (a b c d : ℕ) → a < 256 → b < 256 → c < 256 → d < 256 → le32 (from_le_bytes w32 (a ∷ b ∷ c ∷ d ∷ [])) ≡ a ∷ b ∷ c ∷ d ∷ []
+le32_made a b c d ha hb hc hd = word_bytes a b c d ha hb hc hd
 
 -- red and blue exchanged
 pub exchange_word : (w : ℕ) → w < 4294967296
@@ -189,7 +194,3 @@ module _ (f : ℕ → List ℕ) (k : ℕ) (len : (i : ℕ) → length (f i) ≡ 
   no_cell w x at d h =
       let m : w * k ≤ x * k = mul-le-mul_right k h in
       rw (drop_of_length-le (cat f w) {i = x * k} (omega (arith, length-cells w))) (put-nil d (at + x * k))
-
-pub all_cells_lem : (f : ℕ → List ℕ) (k w at : ℕ) (d : List ℕ) → finished f k w d at 0 ≡ put d at (cat f w)
-unfolding finished
-all_cells_lem f k w at d = rw (zero-mul k, add-zero at)

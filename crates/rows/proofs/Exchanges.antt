@@ -71,12 +71,9 @@ cells_left row d b at x w h room was =
     let p : at + x * 3 ≡ at + length (cat f x) = omega arith in
     rw (r, was, p) (put-append d at (cat f x) t (omega arith)) ∙ ap (put d at) (sym s)
 
--- once no cell is left, or only the last, all cells are put
+-- once only the last cell is left, it and those before it are all
 module _ (row d₀ m d : List ℕ) (at y x w : ℕ) (h : y ≤ w) (room : at + w * 3 ≤ length d₀) (was : m ≡ put d₀ at (cat (cell24 false row) y))
     (left : finished (cell24 false row) 3 w d at x ≡ finished (cell24 false row) 3 w m at y) where
-  pub all_exchanged : w ≤ x → d ≡ put d₀ at (cat (cell24 false row) w)
-  all_exchanged none = sym (no_cell (cell24 false row) 3 (length-cell24 false row) w x at d none) ∙ left ∙ cells_left row d₀ m at y w h room was
-
   pub last_exchanged : (e : List ℕ) → x < w → w ≤ x + 1 → at + w * 3 ≤ length d → e ≡ put d (at + x * 3) (cell24 false row x) → e ≡ put d₀ at (cat (cell24 false row) w)
   last_exchanged e some last space is =
       sym (no_cell (cell24 false row) 3 (length-cell24 false row) w (x + 1) at e last)

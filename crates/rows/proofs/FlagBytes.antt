@@ -78,8 +78,8 @@ above_law f m n x y l p q =
 
 module _ (f : ℕ → Bool) (flags : List ℕ) (k v : ℕ) where
   pub flags_turn : k < 64 → length flags ≡ 64 → ((j : ℕ) → j < k → get_or flags j 0 ≡ bit (f j)) → v ≡ bit (f k)
-      → (k + 1 ≤ 64) × (length (set flags k v) ≡ 64) × ((j : ℕ) → j < k + 1 → get_or (set flags k v) j 0 ≡ bit (f j))
-  flags_turn l e h p = (omega arith, length-set flags k v ∙ e, λ j m. go j m (ltb j k) refl)
+      → (length (set flags k v) ≡ 64) × ((j : ℕ) → j < k + 1 → get_or (set flags k v) j 0 ≡ bit (f j))
+  flags_turn l e h p = (length-set flags k v ∙ e, λ j m. go j m (ltb j k) refl)
     where
       go : (j : ℕ) → j < k + 1 → (b : Bool) → ltb j k ≡ b → get_or (set flags k v) j 0 ≡ bit (f j)
       go j m true i = get_or-set_other flags k j v 0 (omega (arith, ltb-true j k i)) ∙ h j (ltb-true j k i)

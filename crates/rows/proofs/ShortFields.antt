@@ -1,5 +1,5 @@
 -- Laws of mask mode with channels of at most 8 bits: a word is made of a pixel's word.
-use Rattle.std.proofs.Common.{◌≡◌, ℕ, ◌+◌, ◌*◌, ◌/◌, ◌%◌, ◌≤◌, Bool, true, false, cond, eqb, ◌⊎◌, List, length, get_or, sym, refl, ap, ◌∙◌, subst, ap₂, inl, inr, arith}
+use Rattle.std.proofs.Common.{◌≡◌, ℕ, ◌+◌, ◌*◌, ◌/◌, ◌%◌, ◌≤◌, Bool, true, false, cond, eqb, ◌⊎◌, List, get_or, sym, refl, ap, ◌∙◌, subst, ap₂, inl, inr, arith}
 use lib.Bits.{bit_or}
 use Rattle.leaves.specs.declared.bitfields.MaskShiftLen.{MaskShiftLen}
 use Rattle.rows.specs.declared.masks.MaskLayout.{MaskLayout}
@@ -10,7 +10,7 @@ use Rattle.leaves.specs.Sizes.{row_stride}
 use Rattle.rows.specs.StoredRows.{field, alpha_in, mask_word, mask_cell, cell32, LayoutOk}
 use Rattle.leaves.proofs.BitLaws.{or_turn}
 use Rattle.leaves.proofs.ListLaws.{cat_ext}
-use Rattle.rows.proofs.MaskCells.{length-mask_cell, cells_fit}
+use Rattle.rows.proofs.MaskCells.{cells_fit}
 
 -- the word of a pixel of which the bytes are given as a word
 pub of_pixel : (layout : MaskLayout) (row : List ℕ) (x pixel v : ℕ) → le32 pixel ≡ cell32 true row x → v ≡ mask_word layout 4 false (le32 pixel) 0
@@ -63,19 +63,10 @@ module _ (l m : MaskLayout) (bgr : Bool)
         alpha = subst P (sym same.4) k.alpha;
       }
 
-  pub room_ordered : LayoutOk l → (w at n : ℕ) → at + row_stride w l.bpp ≤ n → at + w * (m.bpp / 8) ≤ n
-  room_ordered k w at n h = rw same.0 (omega (arith, cells_fit w l.bpp k.depth))
-
--- the length of a cell
-pub length_short : (layout : MaskLayout) (bgr : Bool) (row : List ℕ) (k : ℕ) → (layout.bpp ≡ 16) ⊎ (layout.bpp ≡ 32) → layout.bpp ≡ k * 8 → (x : ℕ)
-    → length (mask_cell layout 4 bgr row x) ≡ k
-length_short layout bgr row k depth deep x = length-mask_cell layout 4 bgr row depth x ∙ omega arith
+  pub room_ordered : LayoutOk l → (w at n k : ℕ) → l.bpp ≡ k * 8 → at + row_stride w l.bpp ≤ n → at + w * k ≤ n
+  room_ordered ok w at n k deep h = let z : l.bpp / 8 ≡ k = omega arith in rw (← z) (omega (arith, cells_fit w l.bpp ok.depth))
 
 -- the other depth
 pub depth32 : (bpp : ℕ) → (bpp ≡ 16) ⊎ (bpp ≡ 32) → (bpp ≡ 16 → ⊥) → bpp ≡ 32
 depth32 bpp (inl e) h = absurd (h e)
 depth32 bpp (inr e) h = e
-
--- there is room for the cells
-pub room : (w bpp at l k : ℕ) → bpp ≡ k * 8 → at + w * (bpp / 8) ≤ l → at + w * k ≤ l
-room w bpp at l k e h = let z : bpp / 8 ≡ k = omega arith in rw z at h

@@ -1,9 +1,10 @@
 -- Laws of bytes taken as one number, and of the places that pass a test.
-use Rattle.std.proofs.Common.{◌≡◌, ℕ, zero, suc, ◌+◌, ◌*◌, ◌/◌, ◌%◌, ◌^◌, ◌<◌, ◌≤◌, Bool, true, false, cond, not, T, eqb, ltb, sym, refl, ap, ◌∙◌, subst, suc-le-suc, zero-le, lt_of_lt_of_le, not-suc-le-zero, add-zero, pow-suc, arith, lit<, ltb-false, ltb-true, eq-eqb, ne_eqb, eqb-true}
+use Rattle.std.proofs.Common.{◌≡◌, ℕ, zero, suc, ◌+◌, ◌*◌, ◌/◌, ◌%◌, ◌^◌, ◌<◌, ◌≤◌, Bool, true, false, cond, not, T, eqb, ltb, sym, refl, ap, ◌∙◌, subst, suc-le-suc, zero-le, lt_of_lt_of_le, not-suc-le-zero, add-zero, pow-suc, arith, lit<, ltb-false, ltb-true, eq-eqb, ne_eqb, eqb-true, [], ◌∷◌}
 use borrow.Author.Tests.{eqb-false}
 use lib.Arith.{lt-one}
 use lib.Bits.{bit_and, bit_or, bit_xor, and_block, or_block, xor_block, or_lt, xor_lt, xor_self, xor_add_and, and_le_l, and_le_r, block_half, block_odd}
 use lib.Count.{count_trailing_zeros, under}
+use Rattle.std.specs.Int.{w64, from_le_bytes}
 use Rattle.rows.specs.Words.{word, leading}
 
 -- ---- places
@@ -63,20 +64,17 @@ unfolding word
 word_next f k zero = refl
 word_next f k (suc n) = rw (word_next f (k + 1) n)
 
--- four bytes, and eight of two times four
-module _ (f : ℕ → ℕ) (k a b : ℕ) where
-  pub word_4 : (c d : ℕ) → a ≡ f k → b ≡ f (k + 1) → c ≡ f (k + 2) → d ≡ f (k + 3) → a + b * 0x100 + c * 0x10000 + d * 0x1000000 ≡ word f k 4
-  unfolding word
-  word_4 c d ea eb ec ed =
-      let p : k + 1 + 1 ≡ k + 2 = omega arith in
-      let q : k + 2 + 1 ≡ k + 3 = omega arith in
-      rw (p, q) (omega arith)
-
-  pub word_8 : a ≡ word f k 4 → b ≡ word f (k + 4) 4 → a + b * 0x100000000 ≡ word f k 8
-  unfolding word
-  word_8 ea eb =
-      let p : k + 1 + 1 + 1 + 1 ≡ k + 4 = omega arith in
-      rw p (omega arith)
+-- eight bytes as std makes a number of them
+pub word_8 : (f : ℕ → ℕ) (k : ℕ) → from_le_bytes w64 (f k ∷ f (k + 1) ∷ f (k + 2) ∷ f (k + 3) ∷ f (k + 4) ∷ f (k + 5) ∷ f (k + 6) ∷ f (k + 7) ∷ []) ≡ word f k 8
+unfolding word
+word_8 f k =
+    let p2 : k + 1 + 1 ≡ k + 2 = omega arith in
+    let p3 : k + 2 + 1 ≡ k + 3 = omega arith in
+    let p4 : k + 3 + 1 ≡ k + 4 = omega arith in
+    let p5 : k + 4 + 1 ≡ k + 5 = omega arith in
+    let p6 : k + 5 + 1 ≡ k + 6 = omega arith in
+    let p7 : k + 6 + 1 ≡ k + 7 = omega arith in
+    rw (p2, p3, p4, p5, p6, p7) (omega arith)
 
 -- numbers are taken together byte by byte
 word-add : (f g : ℕ → ℕ) (k n : ℕ) → word f k n + word g k n ≡ word (λ i. f i + g i) k n

@@ -1,7 +1,5 @@
 -- The stream: the rows' codes in stored order, each row with its end.
-use Rattle.std.specs.Prelude.{◌≡◌, ℕ, ◌+◌, Bool, true, false, cond, List, [], ◌∷◌, ◌++◌, length, ◌==◌, nat_lt}
-use Rattle.rows.specs.declared.counting.StreamCount.{StreamCount}
-use Rattle.rows.specs.declared.counting.StreamCount.TheVariants.{Under, OverBudget}
+use Rattle.std.specs.Prelude.{◌≡◌, ℕ, ◌+◌, Bool, true, false, Option, Some, None, cond, List, [], ◌∷◌, ◌++◌, length, ◌==◌, nat_lt}
 use Rattle.leaves.specs.Lists.{cat}
 use Rattle.rows.specs.StoredRows.{row_of, source_row}
 use Rattle.rows.specs.RleCodes.{row_codes}
@@ -25,17 +23,17 @@ stream_start d w h plane stride s = length (cat (stream_row d w h plane stride) 
 -- ---- what a count answers
 
 -- whether the stream is under the budget
-abbrev pub is_under : StreamCount → Bool
-is_under (Under bytes) = true
-is_under OverBudget = false
+abbrev pub is_under : Option ℕ → Bool
+is_under (Some bytes) = true
+is_under None = false
 
 -- its length; over budget there is none
-abbrev pub counted_bytes : StreamCount → ℕ
-counted_bytes (Under bytes) = bytes
-counted_bytes OverBudget = 0
+abbrev pub counted_bytes : Option ℕ → ℕ
+counted_bytes (Some bytes) = bytes
+counted_bytes None = 0
 
 -- the promise of a count, of a stream of this length. Document 01, Cells: "The stream is used exactly if its whole counted length is under the
 -- budget, and "over budget" means that this count is at least the budget"
-pub record Counted (length budget : ℕ) (answer : StreamCount) : Type 0 where
+pub record Counted (length budget : ℕ) (answer : Option ℕ) : Type 0 where
   pub under : is_under answer ≡ nat_lt length budget
   pub bytes : counted_bytes answer ≡ cond (nat_lt length budget) length 0

@@ -1,10 +1,11 @@
 // What a block of codes is, and which one stands at a place of a row (the Rust's row coders in encoder.rs, section
 // on RLE).
 ghost use Rattle.std.specs.Prelude.{◌≡◌, ℕ, ◌+◌, ◌-◌, ◌^◌, ◌<◌, ◌≤◌, min, Bool, not, List, length, drop, ◌==◌, bit_xor, nat_eq, slice_index};
-ghost use Rattle.rows.specs.RleCodes.{depth_of, cells, run_length, gather_length, block_at, width, data_bytes, size};
+ghost use Rattle.rows.specs.RleCodes.{is_rle4, depth_of, cells, run_length, gather_length, block_at, width, data_bytes, size};
 ghost use Rattle.rows.specs.Runs.{Running};
 ghost use Rattle.rows.specs.Words.{word, leading};
 
+use crate::rle::Rle;
 use crate::words::le64;
 
 // What the coder takes from a place.
@@ -16,36 +17,29 @@ pub enum Block {
     Absolute(usize),
 }
 
-// The bits of a cell.
-fn cell_mask(four: bool) -> usize
-    ensures { result ≡ 2 ^ depth_of four - 1 }
-{
-    if four { 15 } else { 255 }
-}
-
 // The cell at k: an index, cut to the depth. By a mask, which does not change in a scan, it has no branch.
-pub(crate) fn cell(row: &[u8], k: usize, four: bool) -> usize
+pub(crate) fn cell(row: &[u8], k: usize, rle: Rle) -> usize
     requires { k < length row.now }
-    ensures { (result ≡ slice_index (cells (depth_of four) row.now) k) × (result < 2 ^ depth_of four) }
+    ensures { (result ≡ slice_index (cells (depth_of (is_rle4 rle)) row.now) k) × (result < 2 ^ depth_of (is_rle4 rle)) }
 {
-    row[k] as usize & cell_mask(four)
+    (row[k] & rle.mask()) as usize
 }
 
 // Eight bytes, each 0 where a cell from `k` on is the same as the next.
-pub(crate) fn differences(row: &[u8], k: usize, four: bool) -> u64
+pub(crate) fn differences(row: &[u8], k: usize, rle: Rle) -> u64
     requires { k + 8 < length row.now }
-    ensures { result ≡ word (λ i. bit_xor (slice_index (cells (depth_of four) row.now) i) (slice_index (cells (depth_of four) row.now) (i + 1))) k 8 }
+    ensures { result ≡ word (λ i. bit_xor (slice_index (cells (depth_of (is_rle4 rle)) row.now) i) (slice_index (cells (depth_of (is_rle4 rle)) row.now) (i + 1))) k 8 }
 {
-    (le64(row, k) ^ le64(row, k + 1)) & (cell_mask(four) as u64 * 0x0101010101010101)
+    (le64(row, k) ^ le64(row, k + 1)) & (rle.mask() as u64 * 0x0101010101010101)
 }
 
 // The same, or 0 where the row has not so many cells left.
-pub(crate) fn first_differences(row: &[u8], k: usize, four: bool) -> u64
+pub(crate) fn first_differences(row: &[u8], k: usize, rle: Rle) -> u64
     requires { k < length row.now }
-    ensures { k + 8 < length row.now → result ≡ word (λ i. bit_xor (slice_index (cells (depth_of four) row.now) i) (slice_index (cells (depth_of four) row.now) (i + 1))) k 8 }
+    ensures { k + 8 < length row.now → result ≡ word (λ i. bit_xor (slice_index (cells (depth_of (is_rle4 rle)) row.now) i) (slice_index (cells (depth_of (is_rle4 rle)) row.now) (i + 1))) k 8 }
 {
     if row.len() - k > 8 {
-        return differences(row, k, four);
+        return differences(row, k, rle);
     }
     0
 }
@@ -55,7 +49,7 @@ pub(crate) fn first_differences(row: &[u8], k: usize, four: bool) -> u64
 pub(crate) fn same_of(x: u64) -> usize
     ensures { (four : Bool) (row : List ℕ) (k : ℕ) → x ≡ word (λ i. bit_xor (slice_index (cells (depth_of four) row) i) (slice_index (cells (depth_of four) row) (i + 1))) k 8 → result ≡ leading (λ i. nat_eq (slice_index (cells (depth_of four) row) (i + 1)) (slice_index (cells (depth_of four) row) i)) k 8 }
 {
-    (u64::trailing_zeros(x) / 8) as usize
+    (x.trailing_zeros() / 8) as usize
 }
 
 // How many of the eight cells from a place on are not the same as the next, up to the first that is, where
@@ -67,31 +61,21 @@ fn lone_of(x: u64) -> usize
     let low = 0x7F7F7F7F7F7F7F7F;
     let high = 0x8080808080808080;
     let zeros = (((x & low) + low) | x) & high ^ high;
-    (u64::trailing_zeros(zeros) / 8) as usize
-}
-
-// How many cells a block may code, of those that are left.
-pub(crate) fn most_cells(left: usize) -> usize
-    ensures { result ≡ min left 255 }
-{
-    if left < 255 {
-        return left;
-    }
-    255
+    (zeros.trailing_zeros() / 8) as usize
 }
 
 // How far the run at `at`, of which `count` cells are known, goes on by 32 cells a step, of the `most` that it may have.
-pub(crate) fn long_run(row: &[u8], at: usize, four: bool, count: usize, most: usize) -> usize
-    requires { (Running (depth_of four) row.now at count) × (most ≡ min (length row.now - at) 255) × (count ≤ most) }
-    ensures { (Running (depth_of four) row.now at result) × (count ≤ result) × (result ≤ most) }
+pub(crate) fn long_run(row: &[u8], at: usize, rle: Rle, count: usize, most: usize) -> usize
+    requires { (Running (depth_of (is_rle4 rle)) row.now at count) × (most ≡ min (length row.now - at) 255) × (count ≤ most) }
+    ensures { (Running (depth_of (is_rle4 rle)) row.now at result) × (count ≤ result) × (result ≤ most) }
 {
     let mut n = count;
     while most - n > 31 {
         let k = at + n - 1;
-        let x = differences(row, k, four)
-            | differences(row, k + 8, four)
-            | differences(row, k + 16, four)
-            | differences(row, k + 24, four);
+        let x = differences(row, k, rle)
+            | differences(row, k + 8, rle)
+            | differences(row, k + 16, rle)
+            | differences(row, k + 24, rle);
         if x != 0 {
             return n;
         }
@@ -102,13 +86,13 @@ pub(crate) fn long_run(row: &[u8], at: usize, four: bool, count: usize, most: us
 
 // How many indices are gathered from `at` on, where no run starts and `x` are the differences: eight at a
 // time as far as they fit.
-fn gather(row: &[u8], at: usize, four: bool, x: u64) -> usize
+fn gather(row: &[u8], at: usize, rle: Rle, x: u64) -> usize
     requires { (at < length row.now)
-        × (run_length (slice_index (cells (depth_of four) row.now) at) (drop (at + 1) (cells (depth_of four) row.now)) ≤ 1)
-        × (at + 8 < length row.now → x ≡ word (λ i. bit_xor (slice_index (cells (depth_of four) row.now) i) (slice_index (cells (depth_of four) row.now) (i + 1))) at 8) }
-    ensures { result ≡ gather_length (drop (at + 1) (cells (depth_of four) row.now)) }
+        × (run_length (slice_index (cells (depth_of (is_rle4 rle)) row.now) at) (drop (at + 1) (cells (depth_of (is_rle4 rle)) row.now)) ≤ 1)
+        × (at + 8 < length row.now → x ≡ word (λ i. bit_xor (slice_index (cells (depth_of (is_rle4 rle)) row.now) i) (slice_index (cells (depth_of (is_rle4 rle)) row.now) (i + 1))) at 8) }
+    ensures { result ≡ gather_length (drop (at + 1) (cells (depth_of (is_rle4 rle)) row.now)) }
 {
-    let most = most_cells(row.len() - at);
+    let most = (row.len() - at).min(255);
     let mut count: usize = 1;
     if most > 8 {
         let lone = lone_of(x);
@@ -119,7 +103,7 @@ fn gather(row: &[u8], at: usize, four: bool, x: u64) -> usize
     }
     loop {
         if most - count > 8 {
-            let lone = lone_of(differences(row, at + count, four));
+            let lone = lone_of(differences(row, at + count, rle));
             if lone < 8 {
                 break count + lone;
             }
@@ -130,8 +114,8 @@ fn gather(row: &[u8], at: usize, four: bool, x: u64) -> usize
             }
             let next = at + count;
             if next + 1 < row.len() {
-                let x = cell(row, next, four);
-                let y = cell(row, next + 1, four);
+                let x = cell(row, next, rle);
+                let y = cell(row, next + 1, rle);
                 if x == y {
                     break count;
                 }
@@ -142,22 +126,22 @@ fn gather(row: &[u8], at: usize, four: bool, x: u64) -> usize
 }
 
 // The block at `at`, where a run of `run` cells `v` starts; if it is one cell, `x` are the differences.
-pub(crate) fn block_from(row: &[u8], at: usize, four: bool, v: usize, run: usize, x: u64) -> Block
+pub(crate) fn block_from(row: &[u8], at: usize, rle: Rle, v: usize, run: usize, x: u64) -> Block
     requires { (at < length row.now)
-        × (v ≡ slice_index (cells (depth_of four) row.now) at)
-        × (run ≡ run_length (slice_index (cells (depth_of four) row.now) at) (drop (at + 1) (cells (depth_of four) row.now)))
-        × (run ≤ 1 → at + 8 < length row.now → x ≡ word (λ i. bit_xor (slice_index (cells (depth_of four) row.now) i) (slice_index (cells (depth_of four) row.now) (i + 1))) at 8) }
-    ensures { result ≡ block_at (cells (depth_of four) row.now) at }
+        × (v ≡ slice_index (cells (depth_of (is_rle4 rle)) row.now) at)
+        × (run ≡ run_length (slice_index (cells (depth_of (is_rle4 rle)) row.now) at) (drop (at + 1) (cells (depth_of (is_rle4 rle)) row.now)))
+        × (run ≤ 1 → at + 8 < length row.now → x ≡ word (λ i. bit_xor (slice_index (cells (depth_of (is_rle4 rle)) row.now) i) (slice_index (cells (depth_of (is_rle4 rle)) row.now) (i + 1))) at 8) }
+    ensures { result ≡ block_at (cells (depth_of (is_rle4 rle)) row.now) at }
 {
     if 1 < run {
         return Block::Pair(run, v, v);
     }
-    let gathered = gather(row, at, four, x);
+    let gathered = gather(row, at, rle, x);
     if 2 < gathered {
         return Block::Absolute(gathered);
     }
     let w = if at + 1 < row.len() {
-        cell(row, at + 1, four)
+        cell(row, at + 1, rle)
     } else {
         0
     };
@@ -166,14 +150,14 @@ pub(crate) fn block_from(row: &[u8], at: usize, four: bool, v: usize, run: usize
 
 // The block at `at`, where the next `same` cells are equal to the first or, if none is, `lone` cells are
 // gathered.
-pub(crate) fn shown_block(row: &[u8], at: usize, four: bool, same: usize, lone: usize) -> Block
+pub(crate) fn shown_block(row: &[u8], at: usize, rle: Rle, same: usize, lone: usize) -> Block
     requires { (at + 1 < length row.now)
         × (same ≤ 64)
-        × (same + 1 ≡ run_length (slice_index (cells (depth_of four) row.now) at) (drop (at + 1) (cells (depth_of four) row.now)))
-        × (same ≡ 0 → lone ≡ gather_length (drop (at + 1) (cells (depth_of four) row.now))) }
-    ensures { (result ≡ block_at (cells (depth_of four) row.now) at) × (width result ≤ same + lone + 1) }
+        × (same + 1 ≡ run_length (slice_index (cells (depth_of (is_rle4 rle)) row.now) at) (drop (at + 1) (cells (depth_of (is_rle4 rle)) row.now)))
+        × (same ≡ 0 → lone ≡ gather_length (drop (at + 1) (cells (depth_of (is_rle4 rle)) row.now))) }
+    ensures { (result ≡ block_at (cells (depth_of (is_rle4 rle)) row.now) at) × (width result ≤ same + lone + 1) }
 {
-    let v = cell(row, at, four);
+    let v = cell(row, at, rle);
     if 0 < same {
         let run = same + 1;
         return Block::Pair(run, v, v);
@@ -181,19 +165,16 @@ pub(crate) fn shown_block(row: &[u8], at: usize, four: bool, same: usize, lone: 
     if 2 < lone {
         return Block::Absolute(lone);
     }
-    let w = cell(row, at + 1, four);
+    let w = cell(row, at + 1, rle);
     Block::Pair(1, v, w)
 }
 
 // Data bytes of an absolute block of n cells.
-pub(crate) fn data_bytes(n: usize, four: bool) -> usize
+pub(crate) fn data_bytes(n: usize, rle: Rle) -> usize
     requires { n ≤ 255 }
-    ensures { (result ≡ data_bytes (depth_of four) n) × (result ≤ 256) }
+    ensures { (result ≡ data_bytes (depth_of (is_rle4 rle)) n) × (result ≤ 256) }
 {
-    if four {
-        return (n * 4 + 15) / 16 * 2;
-    }
-    (n * 8 + 15) / 16 * 2
+    (n * rle.bits() + 15) / 16 * 2
 }
 
 impl Block {
@@ -208,13 +189,13 @@ impl Block {
     }
 
     // How many bytes it is written in.
-    pub(crate) fn len(self, four: bool) -> usize
+    pub(crate) fn len(self, rle: Rle) -> usize
         requires { width self ≤ 255 }
-        ensures { result ≡ size (depth_of four) self }
+        ensures { result ≡ size (depth_of (is_rle4 rle)) self }
     {
         match self {
             Block::Pair(_, _, _) => 2,
-            Block::Absolute(n) => 2 + data_bytes(n, four),
+            Block::Absolute(n) => 2 + data_bytes(n, rle),
         }
     }
 }

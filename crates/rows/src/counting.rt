@@ -6,39 +6,31 @@ ghost use Rattle.rows.specs.Stream.{stream, Counted};
 ghost use Rattle.rows.specs.Windows.{Coding};
 ghost use Rattle.rows.specs.Words.{word};
 
-use crate::blocks::{
-    block_from, cell, differences, first_differences, long_run, most_cells, same_of,
-};
+use crate::blocks::{block_from, cell, differences, first_differences, long_run, same_of};
+use crate::pack::source_row;
 use crate::rle::Rle;
 use crate::windows::{charge_below, whole_runs, window_flags};
 
-// A stream's length where it is under the budget.
-#[derive(Clone, Copy)]
-pub enum StreamCount {
-    Under(usize),
-    OverBudget,
-}
-
 // How many cells equal to `v` start at `at`, the first of which is one and where `x` are the differences, at
 // most 255: eight at a time as far as they fit, and 32 once eight were equal.
-fn run_length(row: &[u8], at: usize, four: bool, v: usize, x: u64) -> usize
+fn run_length(row: &[u8], at: usize, rle: Rle, v: usize, x: u64) -> usize
     requires { (at < length row.now)
-        × (v ≡ slice_index (cells (depth_of four) row.now) at)
-        × (at + 8 < length row.now → x ≡ word (λ i. bit_xor (slice_index (cells (depth_of four) row.now) i) (slice_index (cells (depth_of four) row.now) (i + 1))) at 8) }
-    ensures { result ≡ run_length (slice_index (cells (depth_of four) row.now) at) (drop (at + 1) (cells (depth_of four) row.now)) }
+        × (v ≡ slice_index (cells (depth_of (is_rle4 rle)) row.now) at)
+        × (at + 8 < length row.now → x ≡ word (λ i. bit_xor (slice_index (cells (depth_of (is_rle4 rle)) row.now) i) (slice_index (cells (depth_of (is_rle4 rle)) row.now) (i + 1))) at 8) }
+    ensures { result ≡ run_length (slice_index (cells (depth_of (is_rle4 rle)) row.now) at) (drop (at + 1) (cells (depth_of (is_rle4 rle)) row.now)) }
 {
-    let most = most_cells(row.len() - at);
+    let most = (row.len() - at).min(255);
     let mut count: usize = 1;
     if most > 8 {
         let same = same_of(x);
         if same < 8 {
             return 1 + same;
         }
-        count = long_run(row, at, four, 9, most);
+        count = long_run(row, at, rle, 9, most);
     }
     loop {
         if most - count > 7 {
-            let same = same_of(differences(row, at + count - 1, four));
+            let same = same_of(differences(row, at + count - 1, rle));
             if same < 8 {
                 break count + same;
             }
@@ -47,7 +39,7 @@ fn run_length(row: &[u8], at: usize, four: bool, v: usize, x: u64) -> usize
             if most <= count {
                 break count;
             }
-            let w = cell(row, at + count, four);
+            let w = cell(row, at + count, rle);
             if w != v {
                 break count;
             }
@@ -64,15 +56,15 @@ struct Coded {
 }
 
 // The block that starts at `at`.
-fn one_block(row: &[u8], at: usize, four: bool) -> Coded
+fn one_block(row: &[u8], at: usize, rle: Rle) -> Coded
     requires { at < length row.now }
-    ensures { Coding (depth_of four) row.now at result.cells result.bytes }
+    ensures { Coding (depth_of (is_rle4 rle)) row.now at result.cells result.bytes }
 {
-    let v = cell(row, at, four);
-    let x = first_differences(row, at, four);
-    let run = run_length(row, at, four, v, x);
-    let b = block_from(row, at, four, v, run, x);
-    let bytes = b.len(four);
+    let v = cell(row, at, rle);
+    let x = first_differences(row, at, rle);
+    let run = run_length(row, at, rle, v, x);
+    let b = block_from(row, at, rle, v, run, x);
+    let bytes = b.len(rle);
     let cells = b.width();
     Coded { bytes, cells }
 }
@@ -82,7 +74,7 @@ fn window_blocks(row: &[u8], at: usize) -> Coded
     requires { (65 ≤ length row.now) × (at + 2 ≤ length row.now) }
     ensures { (result.cells ≡ 0) ⊎ Coding 8 row.now at result.cells result.bytes }
 {
-    let e = window_flags(row, at);
+    let e = window_flags(row, at, Rle::Rle8);
     let cells = whole_runs(e);
     if cells == 0 {
         return Coded { bytes: 0, cells: 0 };
@@ -92,35 +84,34 @@ fn window_blocks(row: &[u8], at: usize) -> Coded
 }
 
 // Blocks from `at` on: at depth 8 a window's, if it has any, and otherwise one.
-fn blocks_at(row: &[u8], at: usize, four: bool) -> Coded
+fn blocks_at(row: &[u8], at: usize, rle: Rle) -> Coded
     requires { at < length row.now }
-    ensures { Coding (depth_of four) row.now at result.cells result.bytes }
+    ensures { Coding (depth_of (is_rle4 rle)) row.now at result.cells result.bytes }
 {
-    if !four && 65 <= row.len() && at + 2 <= row.len() {
+    if matches!(rle, Rle::Rle8) && 65 <= row.len() && at + 2 <= row.len() {
         let blocks = window_blocks(row, at);
         if blocks.cells != 0 {
             return blocks;
         }
     }
-    one_block(row, at, four)
+    one_block(row, at, rle)
 }
 
-// How many bytes a row's codes take.
-fn rle_row_len(row: &[u8], four: bool) -> usize
-    ensures { (result ≡ length (row_codes (depth_of four) row.now)) × (result ≤ 2 * length row.now) }
+// How many bytes a row's codes take. A turn goes on by the cells that its blocks code.
+fn rle_row_len(row: &[u8], rle: Rle) -> usize
+    ensures { (result ≡ length (row_codes (depth_of (is_rle4 rle)) row.now)) × (result ≤ 2 * length row.now) }
 {
     let mut len: usize = 0;
     let mut at: usize = 0;
     while at < row.len() {
-        let blocks = blocks_at(row, at, four);
+        let blocks = blocks_at(row, at, rle);
         len += blocks.bytes;
         at += blocks.cells;
     }
     len
 }
 
-// The stream's length, counted row by row in stored order as far as the budget. Each row's source is the
-// part of the plane that starts at its own offset.
+// The stream's length where it is under the budget, counted row by row in stored order as far as the budget.
 pub fn rle_len(
     rle: Rle,
     plane: &[u8],
@@ -128,28 +119,20 @@ pub fn rle_len(
     width: u32,
     height: u32,
     budget: usize,
-) -> StreamCount
+) -> Option<usize>
     requires width_le_stride { width ≤ stride }
     requires height_in_bounds { stride * height ≤ length plane.now }
     requires budget_bound { budget ≤ 2 ^ 32 }
     ensures { Counted (length (stream (depth_of (is_rle4 rle)) width height plane.now stride)) budget result }
 {
-    let four = rle.is_rle4();
     let w = width as usize;
     let h = height as usize;
-    let mut len: usize = 0;
-    let mut y: usize = 0;
-    while y < h {
+    let mut len = 0;
+    for y in 0..h {
         if budget <= len {
-            return StreamCount::OverBudget;
+            return None;
         }
-        let start = (h - 1 - y) * stride;
-        let end = start + w;
-        len = len + rle_row_len(&plane[start..end], four) + 2;
-        y += 1;
+        len += rle_row_len(source_row(plane, stride, w, h, false, y), rle) + 2;
     }
-    if len < budget {
-        return StreamCount::Under(len);
-    }
-    StreamCount::OverBudget
+    if len < budget { Some(len) } else { None }
 }

@@ -6,15 +6,8 @@ ghost use Rattle.leaves.specs.Lists.{tab, cat};
 ghost use Rattle.leaves.specs.Put.{put};
 ghost use Rattle.rows.specs.StoredRows.{cell24, cell32, exchanged_byte};
 
-use crate::words::{place_mask, put_each};
-use leaves::buffer::put_u32;
-
-// The word of four bytes, the first one lowest.
-fn word_of(a: u8, b: u8, c: u8, d: u8) -> u32
-    ensures { le32 result ≡ a ∷ b ∷ c ∷ d ∷ [] }
-{
-    a as u32 + b as u32 * 256 + c as u32 * 65536 + d as u32 * 16777216
-}
+use crate::words::place_mask;
+use leaves::buffer::put_number;
 
 // The word of pixel x of 4 bytes.
 pub(crate) fn pixel_word(src: &[u8], x: usize) -> u32
@@ -22,7 +15,7 @@ pub(crate) fn pixel_word(src: &[u8], x: usize) -> u32
     ensures { le32 result ≡ cell32 true src.now x }
 {
     let s = x * 4;
-    word_of(src[s], src[s + 1], src[s + 2], src[s + 3])
+    u32::from_le_bytes([src[s], src[s + 1], src[s + 2], src[s + 3]])
 }
 
 // A pixel's word with red and blue exchanged. From the word it is a few masks, which vector code has;
@@ -39,12 +32,8 @@ pub(crate) fn exchange32(src: &[u8], width: u32, dst: &mut [u8], at: usize)
     requires width_in_bounds { at + width * 4 ≤ length dst.old }
     ensures { dst.new ≡ put dst.old at (cat (cell32 false src.now) width) }
 {
-    let w = width as usize;
-    let mut x = 0;
-    while x < w {
-        let word = exchanged(pixel_word(src, x));
-        put_u32(dst, at + x * 4, word);
-        x += 1;
+    for x in 0..width as usize {
+        put_number(dst, at + x * 4, exchanged(pixel_word(src, x)));
     }
 }
 
@@ -54,7 +43,7 @@ fn cell_word24(src: &[u8], x: usize) -> u32
     ensures { le32 result ≡ cell24 false src.now x ++ (0 ∷ []) }
 {
     let s = x * 3;
-    word_of(src[s + 2], src[s + 1], src[s], 0)
+    u32::from_le_bytes([src[s + 2], src[s + 1], src[s], 0])
 }
 
 // The stored cell of pixel x of a row with red first.
@@ -87,13 +76,11 @@ fn exchange_sixteen(src: &[u8], i: usize, dst: &mut [u8], at: usize)
     ensures { dst.new ≡ put dst.old at (tab (λ k. exchanged_byte src.now (i + k)) 48) }
 {
     let mut bytes = [0u8; 48];
-    let mut j = 0;
-    while j < 48 {
+    for j in 0..48 {
         let s = i + j;
         bytes[j] = exchanged_byte(src[s - 2], src[s], src[s + 2], j);
-        j += 1;
     }
-    put_each(&bytes, dst, at);
+    dst[at..at + 48].copy_from_slice(&bytes);
 }
 
 // The first cells of a row with red first, and how many they are: one alone, then sixteen a turn. A turn
@@ -108,13 +95,12 @@ fn exchange_most(src: &[u8], width: u32, dst: &mut [u8], at: usize) -> usize
         return 0;
     }
     exchange_cell(src, 0, dst, at);
-    let mut x = 1;
-    while w - x > 16 {
-        let i = x * 3;
+    let turns = w.saturating_sub(2) / 16;
+    for turn in 0..turns {
+        let i = (1 + turn * 16) * 3;
         exchange_sixteen(src, i, dst, at + i);
-        x += 16;
     }
-    x
+    1 + turns * 16
 }
 
 // The 24-bit cells of a row with red first. Those after the blocks of sixteen are stored as words, whose
@@ -125,14 +111,13 @@ pub(crate) fn exchange24(src: &[u8], width: u32, dst: &mut [u8], at: usize)
     ensures { dst.new ≡ put dst.old at (cat (cell24 false src.now) width) }
 {
     let w = width as usize;
-    let mut x = exchange_most(src, width, dst, at);
-    while w - x >= 2 {
-        let p = cell_word24(src, x);
-        put_u32(dst, at + x * 3, p);
-        x += 1;
-    }
-    if x == w {
+    let done = exchange_most(src, width, dst, at);
+    if done == w {
         return;
     }
-    exchange_cell(src, x, dst, at + x * 3);
+    let last = w - 1;
+    for x in done..last {
+        put_number(dst, at + x * 3, cell_word24(src, x));
+    }
+    exchange_cell(src, last, dst, at + last * 3);
 }

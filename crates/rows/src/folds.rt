@@ -15,14 +15,14 @@ fn fold(x: u64, width: u32, lane: u32, mask: u64) -> u64
     (x << width | x >> lane) & mask
 }
 
-// The eight cells from x on as bpp bytes, each of them lowest in a lane of 64 / bpp bits.
-pub(crate) fn folded(src: &[u8], x: usize, bpp: u16) -> u64
-    requires folded_depth { FoldedDepth bpp }
+// The eight cells from x on as BPP bytes, each of them lowest in a lane of 64 / BPP bits.
+pub(crate) fn folded<const BPP: u16>(src: &[u8], x: usize) -> u64
+    requires folded_depth { FoldedDepth BPP }
     requires x_in_bounds { x + 8 ≤ length src.now }
-    ensures { result ≡ lanes (2 ^ (64 / bpp)) (packed_byte_of bpp (λ i. slice_index src.now (x + i))) bpp }
+    ensures { result ≡ lanes (2 ^ (64 / BPP)) (packed_byte_of BPP (λ i. slice_index src.now (x + i))) BPP }
 {
     let w = le64(src, x);
-    if bpp == 2 {
+    if BPP == 2 {
         let pairs = fold(w & 0x0303030303030303, 2, 8, 0x000f000f000f000f);
         return fold(pairs, 4, 16, 0x000000ff000000ff);
     }
@@ -31,14 +31,14 @@ pub(crate) fn folded(src: &[u8], x: usize, bpp: u16) -> u64
     fold(fours, 4, 32, 0xff)
 }
 
-// Stores the lowest byte of each of n lanes.
-pub(crate) fn put_lanes(w: u64, n: u16, dst: &mut [u8], at: usize)
-    requires folded_depth { FoldedDepth n }
-    requires n_in_bounds { at + n ≤ length dst.old }
-    ensures { dst.new ≡ put dst.old at (tab (λ j. w / 2 ^ (j * (64 / n)) % 256) n) }
+// Stores the lowest byte of each of N lanes.
+pub(crate) fn put_lanes<const N: u16>(w: u64, dst: &mut [u8], at: usize)
+    requires folded_depth { FoldedDepth N }
+    requires lanes_in_bounds { at + N ≤ length dst.old }
+    ensures { dst.new ≡ put dst.old at (tab (λ j. w / 2 ^ (j * (64 / N)) % 256) N) }
 {
     dst[at] = (w % 256) as u8;
-    if n == 2 {
+    if N == 2 {
         dst[at + 1] = ((w >> 32) % 256) as u8;
     }
 }

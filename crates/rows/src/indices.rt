@@ -7,7 +7,6 @@ ghost use Rattle.rows.specs.Packing.{packed_byte_of, packed, FoldedDepth};
 
 use crate::folds::{folded, put_lanes};
 use crate::pack::copy_row;
-use crate::words::put_each;
 use leaves::types::row_stride;
 
 // Byte i of a row of indices, packed to bpp bits: 0 where it starts after the last cell.
@@ -22,12 +21,10 @@ fn packed_byte(src: &[u8], bpp: u16, i: usize) -> u8
     }
     let base: u32 = 1u32 << bpp as u32;
     let mut byte: u32 = 0;
-    let mut j: usize = 0;
-    while j < per {
+    for j in 0..per {
         let x = i * per + j;
         let index = if x < src.len() { src[x] as u32 } else { 0 };
         byte = byte * base + index % base;
-        j += 1;
     }
     byte as u8
 }
@@ -39,10 +36,8 @@ fn pack_tail(src: &[u8], bpp: u16, from: usize, n: usize, dst: &mut [u8], at: us
     requires n_in_bounds { at + n ≤ length dst.old }
     ensures { dst.new ≡ put dst.old (at + from) (drop from (packed bpp src.now n)) }
 {
-    let mut i = from;
-    while i < n {
+    for i in from..n {
         dst[at + i] = packed_byte(src, bpp, i);
-        i += 1;
     }
 }
 
@@ -60,13 +55,11 @@ fn pack_sixteen(src: &[u8], i: usize, dst: &mut [u8], at: usize)
     ensures { dst.new ≡ put dst.old at (tab (λ k. packed_byte_of 4 (λ x. slice_index src.now x) (i + k)) 16) }
 {
     let mut bytes = [0u8; 16];
-    let mut j = 0;
-    while j < 16 {
+    for j in 0..16 {
         let x = (i + j) * 2;
         bytes[j] = nibbles(src[x], src[x + 1]);
-        j += 1;
     }
-    put_each(&bytes, dst, at);
+    dst[at..at + 16].copy_from_slice(&bytes);
 }
 
 // The first n bytes of indices packed to 4 bits.
@@ -75,35 +68,27 @@ fn pack_nibbles(src: &[u8], n: usize, dst: &mut [u8], at: usize)
     requires n_in_bounds { at + n ≤ length dst.old }
     ensures { dst.new ≡ put dst.old at (packed 4 src.now n) }
 {
-    let full = src.len() / 2;
-    let most = if full < n { full } else { n };
-    let mut i = 0;
-    while most - i >= 16 {
+    let turns = (src.len() / 2).min(n) / 16;
+    for turn in 0..turns {
+        let i = turn * 16;
         pack_sixteen(src, i, dst, at + i);
-        i += 16;
     }
-    pack_tail(src, 4, i, n, dst, at);
+    pack_tail(src, 4, turns * 16, n, dst, at);
 }
 
-// The first n bytes of indices packed to 1 or 2 bits. Its caller passes a literal bpp, so that each depth is compiled apart.
-fn pack_folded(src: &[u8], bpp: u16, n: usize, dst: &mut [u8], at: usize)
-    requires folded_depth { FoldedDepth bpp }
+// The first n bytes of indices packed to 1 or 2 bits.
+fn pack_folded<const BPP: u16>(src: &[u8], n: usize, dst: &mut [u8], at: usize)
+    requires folded_depth { FoldedDepth BPP }
     requires n_bound { n < 2 ^ 40 }
     requires n_in_bounds { at + n ≤ length dst.old }
-    ensures { dst.new ≡ put dst.old at (packed bpp src.now n) }
+    ensures { dst.new ≡ put dst.old at (packed BPP src.now n) }
 {
-    let size = bpp as usize;
-    let whole = src.len() / 8;
-    let room = n / size;
-    let most = if whole < room { whole } else { room };
-    let mut i = 0;
-    let mut o = 0;
-    while i < most {
-        put_lanes(folded(src, i * 8, bpp), bpp, dst, at + o);
-        i += 1;
-        o += size;
+    let size = BPP as usize;
+    let turns = (src.len() / 8).min(n / size);
+    for turn in 0..turns {
+        put_lanes::<BPP>(folded::<BPP>(src, turn * 8), dst, at + turn * size);
     }
-    pack_tail(src, bpp, o, n, dst, at);
+    pack_tail(src, BPP, turns * size, n, dst, at);
 }
 
 // The first n bytes of indices packed to bpp bits.
@@ -113,19 +98,12 @@ pub(crate) fn pack_bytes(src: &[u8], bpp: u16, n: usize, dst: &mut [u8], at: usi
     requires n_in_bounds { at + n ≤ length dst.old }
     ensures { dst.new ≡ put dst.old at (packed bpp src.now n) }
 {
-    if bpp == 4 {
-        pack_nibbles(src, n, dst, at);
-        return;
+    match bpp {
+        4 => pack_nibbles(src, n, dst, at),
+        2 => pack_folded::<2>(src, n, dst, at),
+        1 => pack_folded::<1>(src, n, dst, at),
+        _ => pack_tail(src, bpp, 0, n, dst, at),
     }
-    if bpp == 2 {
-        pack_folded(src, 2, n, dst, at);
-        return;
-    }
-    if bpp == 1 {
-        pack_folded(src, 1, n, dst, at);
-        return;
-    }
-    pack_tail(src, bpp, 0, n, dst, at);
 }
 
 // A row of indices, packed to bpp bits.
@@ -139,7 +117,7 @@ pub(crate) fn pack_indices(src: &[u8], bpp: u16, dst: &mut [u8], at: usize)
     let stride = row_stride(w as u32, bpp);
     if bpp == 8 {
         copy_row(src, stride, dst, at);
-        return;
+    } else {
+        pack_bytes(src, bpp, stride, dst, at);
     }
-    pack_bytes(src, bpp, stride, dst, at);
 }

@@ -1,6 +1,6 @@
 // Cells of 16 and 32 bits fitted to masks (the Rust's MaskLayout in encoder.rs, section on pixel packing).
-ghost use Rattle.std.specs.Prelude.{◌≡◌, ◌+◌, ◌*◌, ◌/◌, ◌<◌, ◌≤◌, true, false, ◌⊎◌, length, if◌then◌else◌, nat_eq, slice_index};
-ghost use Rattle.leaves.specs.Bytes.{le16, le32};
+ghost use Rattle.std.specs.Prelude.{◌≡◌, ◌+◌, ◌*◌, ◌/◌, ◌<◌, ◌≤◌, true, false, ◌⊎◌, length, take, if◌then◌else◌, slice_index};
+ghost use Rattle.leaves.specs.Bytes.{le32};
 ghost use Rattle.leaves.specs.Lists.{cat, tab};
 ghost use Rattle.leaves.specs.Masks.{ShiftLen};
 ghost use Rattle.leaves.specs.Put.{put};
@@ -11,7 +11,7 @@ ghost use Rattle.rows.specs.StoredRows.{field, fields_of, mask_word, mask_cell, 
 
 use crate::exchange::pixel_word;
 use leaves::bitfields::{MaskShiftLen, mask_shift_len, quantise};
-use leaves::buffer::{put_u16, put_u32, put_zeros};
+use leaves::buffer::put_zeros;
 use leaves::types::row_stride;
 
 // A mask set resolved to each channel's place and length.
@@ -40,10 +40,8 @@ fn put_channel(table: &[u16], channel: MaskShiftLen, fields: &mut [u32], at: usi
     requires widens { Widens table.now }
     ensures { fields.new ≡ put fields.old at (tab (field channel) 256) }
 {
-    let mut sample = 0;
-    while sample < 256 {
+    for sample in 0..256 {
         fields[at + sample] = mask_field(table, channel, sample as u8);
-        sample += 1;
     }
 }
 
@@ -66,27 +64,13 @@ fn short_field(channel: MaskShiftLen, sample: u32) -> u32
     (sample >> (8 - channel.len)) << (channel.shift % 32)
 }
 
-// The larger of two lengths.
-fn longer(a: u32, b: u32) -> u32
-    ensures { (a ≤ result) × (b ≤ result) }
+// Stores the low bytes of a word as a cell of 16 or 32 bits.
+fn put_cell<const BYTES: usize>(word: u32, dst: &mut [u8], at: usize)
+    requires bytes_bound { BYTES ≤ 4 }
+    requires bytes_in_bounds { at + BYTES ≤ length dst.old }
+    ensures { dst.new ≡ put dst.old at (take BYTES (le32 word)) }
 {
-    if a < b {
-        return b;
-    }
-    a
-}
-
-// Stores a word as a cell of 16 or 32 bits.
-fn put_cell(bpp: u16, word: u32, dst: &mut [u8], at: usize)
-    requires known_depth { (bpp ≡ 16) ⊎ (bpp ≡ 32) }
-    requires bpp_in_bounds { at + bpp / 8 ≤ length dst.old }
-    ensures { dst.new ≡ put dst.old at (if nat_eq bpp 16 then le16 word else le32 word) }
-{
-    if bpp == 16 {
-        put_u16(dst, at, (word % 65536) as u16);
-        return;
-    }
-    put_u32(dst, at, word);
+    dst[at..at + BYTES].copy_from_slice(&word.to_le_bytes()[..BYTES]);
 }
 
 impl MaskLayout {
@@ -136,7 +120,7 @@ impl MaskLayout {
     }
 
     // The cells of a row with red first, for channels of any length.
-    fn long_cells(
+    fn long_cells<const BYTES: usize>(
         self,
         fields: &[u32],
         src: &[u8],
@@ -146,20 +130,16 @@ impl MaskLayout {
         at: usize,
     )
         requires layout_ok { LayoutOk self }
+        requires depth { self.bpp ≡ BYTES * 8 }
         requires known_size { (in_bpp ≡ 3) ⊎ (in_bpp ≡ 4) }
         requires src_len { length src.now ≡ width * in_bpp }
-        requires bpp_in_bounds { at + width * (self.bpp / 8) ≤ length dst.old }
+        requires width_in_bounds { at + width * BYTES ≤ length dst.old }
         requires fields_made { fields.now ≡ fields_of self false }
         ensures { dst.new ≡ put dst.old at (cat (mask_cell self in_bpp false src.now) width) }
     {
-        let w = width as usize;
-        let bpp = self.bpp;
-        let size = bpp as usize / 8;
-        let mut x = 0;
-        while x < w {
+        for x in 0..width as usize {
             let word = self.word(fields, src, in_bpp, x);
-            put_cell(bpp, word, dst, at + x * size);
-            x += 1;
+            put_cell::<BYTES>(word, dst, at + x * BYTES);
         }
     }
 
@@ -167,13 +147,7 @@ impl MaskLayout {
     fn is_short(self, in_bpp: usize) -> bool
         ensures { result ≡ true → (in_bpp ≡ 4) × ShortOk self }
     {
-        if in_bpp != 4 {
-            return false;
-        }
-        longer(
-            longer(self.r.len, self.g.len),
-            longer(self.b.len, self.a.len),
-        ) <= 8
+        in_bpp == 4 && self.r.len.max(self.g.len).max(self.b.len).max(self.a.len) <= 8
     }
 
     // The layout with which pixels of this order are packed as if red came first.
@@ -185,17 +159,10 @@ impl MaskLayout {
             × (result.a ≡ self.a) }
     {
         if bgr {
-            let bpp = self.bpp;
-            let r = self.r;
-            let g = self.g;
-            let b = self.b;
-            let a = self.a;
             return MaskLayout {
-                bpp,
-                r: b,
-                g,
-                b: r,
-                a,
+                r: self.b,
+                b: self.r,
+                ..self
             };
         }
         self
@@ -214,65 +181,44 @@ impl MaskLayout {
         r | g | b | a
     }
 
-    // The word of pixel x of 4 bytes, red first.
-    fn short_cell(self, src: &[u8], x: usize) -> u32
-        requires layout_ok { LayoutOk self }
-        requires short_ok { ShortOk self }
-        requires x_in_bounds { x * 4 + 4 ≤ length src.now }
-        ensures { result ≡ mask_word self 4 false src.now x }
-    {
-        self.short_word(pixel_word(src, x))
-    }
-
-    // The 16-bit cells of a row of pixels of 4 bytes, red first.
-    fn short_cells16(self, src: &[u8], width: u32, dst: &mut [u8], at: usize)
-        requires layout_ok { LayoutOk self }
-        requires short_ok { ShortOk self }
-        requires depth_16 { self.bpp ≡ 16 }
-        requires src_len { length src.now ≡ width * 4 }
-        requires width_in_bounds { at + width * 2 ≤ length dst.old }
-        ensures { dst.new ≡ put dst.old at (cat (mask_cell self 4 false src.now) width) }
-    {
-        let w = width as usize;
-        let mut x = 0;
-        while x < w {
-            let word = self.short_cell(src, x);
-            put_u16(dst, at + x * 2, (word % 65536) as u16);
-            x += 1;
-        }
-    }
-
-    // The 32-bit cells of such a row.
-    fn short_cells32(self, src: &[u8], width: u32, dst: &mut [u8], at: usize)
-        requires layout_ok { LayoutOk self }
-        requires short_ok { ShortOk self }
-        requires depth_32 { self.bpp ≡ 32 }
-        requires src_len { length src.now ≡ width * 4 }
-        requires width_in_bounds { at + width * 4 ≤ length dst.old }
-        ensures { dst.new ≡ put dst.old at (cat (mask_cell self 4 false src.now) width) }
-    {
-        let w = width as usize;
-        let mut x = 0;
-        while x < w {
-            let word = self.short_cell(src, x);
-            put_u32(dst, at + x * 4, word);
-            x += 1;
-        }
-    }
-
     // The cells of a row of pixels of 4 bytes, red first, where each channel has at most 8 bits.
-    fn short_cells(self, src: &[u8], width: u32, dst: &mut [u8], at: usize)
+    fn short_cells<const BYTES: usize>(self, src: &[u8], width: u32, dst: &mut [u8], at: usize)
         requires layout_ok { LayoutOk self }
         requires short_ok { ShortOk self }
+        requires depth { self.bpp ≡ BYTES * 8 }
         requires src_len { length src.now ≡ width * 4 }
-        requires bpp_in_bounds { at + width * (self.bpp / 8) ≤ length dst.old }
+        requires width_in_bounds { at + width * BYTES ≤ length dst.old }
         ensures { dst.new ≡ put dst.old at (cat (mask_cell self 4 false src.now) width) }
     {
-        if self.bpp == 16 {
-            self.short_cells16(src, width, dst, at);
-            return;
+        for x in 0..width as usize {
+            let word = self.short_word(pixel_word(src, x));
+            put_cell::<BYTES>(word, dst, at + x * BYTES);
         }
-        self.short_cells32(src, width, dst, at);
+    }
+
+    // The cells of a row with red first.
+    fn cells<const BYTES: usize>(
+        self,
+        fields: &[u32],
+        src: &[u8],
+        in_bpp: usize,
+        width: u32,
+        dst: &mut [u8],
+        at: usize,
+    )
+        requires layout_ok { LayoutOk self }
+        requires depth { self.bpp ≡ BYTES * 8 }
+        requires known_size { (in_bpp ≡ 3) ⊎ (in_bpp ≡ 4) }
+        requires src_len { length src.now ≡ width * in_bpp }
+        requires width_in_bounds { at + width * BYTES ≤ length dst.old }
+        requires fields_made { fields.now ≡ fields_of self false }
+        ensures { dst.new ≡ put dst.old at (cat (mask_cell self in_bpp false src.now) width) }
+    {
+        if self.is_short(in_bpp) {
+            self.short_cells::<BYTES>(src, width, dst, at);
+        } else {
+            self.long_cells::<BYTES>(fields, src, in_bpp, width, dst, at);
+        }
     }
 
     // Cells of 16 or 32 bits, fitted to masks; the fields of all samples are lent.
@@ -294,10 +240,10 @@ impl MaskLayout {
         ensures { dst.new ≡ put dst.old at (stored_row (Masks in_bpp bgr self) width src.now) }
     {
         let layout = self.ordered(bgr);
-        if layout.is_short(in_bpp) {
-            layout.short_cells(src, width, dst, at);
+        if self.bpp == 16 {
+            layout.cells::<2>(fields, src, in_bpp, width, dst, at);
         } else {
-            layout.long_cells(fields, src, in_bpp, width, dst, at);
+            layout.cells::<4>(fields, src, in_bpp, width, dst, at);
         }
         let filled = width as usize * (self.bpp as usize / 8);
         put_zeros(dst, at + filled, row_stride(width, self.bpp) - filled);

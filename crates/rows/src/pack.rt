@@ -1,6 +1,6 @@
 // How a source row becomes a stored row (the Rust's encoder.rs, section on pixel packing). Each packer
 // writes one whole stored row, padding included, whatever the buffer held before.
-ghost use Rattle.std.specs.Prelude.{◌≡◌, ◌+◌, ◌-◌, ◌*◌, ◌≤◌, length};
+ghost use Rattle.std.specs.Prelude.{◌≡◌, ◌+◌, ◌-◌, ◌*◌, ◌<◌, ◌≤◌, length};
 ghost use Rattle.leaves.specs.Lists.{cat};
 ghost use Rattle.leaves.specs.Put.{put};
 ghost use Rattle.leaves.specs.Sizes.{row_stride};
@@ -52,6 +52,27 @@ pub(crate) fn copy_row(src: &[u8], stored: usize, dst: &mut [u8], at: usize)
     put_zeros(dst, at + n, stored - n);
 }
 
+// The source row of the stored row s: rows are stored bottom first unless top-down. It is the part of the plane that starts
+// at its own offset. As a method of a struct of plane, stride, bytes, height and order, which the loops over rows would pass
+// on, it cost up to 22 % where a stream is counted and 0.9 ns a row of 20 bytes.
+pub(crate) fn source_row(
+    plane: &[u8],
+    stride: usize,
+    bytes: usize,
+    height: usize,
+    top_down: bool,
+    s: usize,
+) -> &[u8]
+    requires s_bound { s < height }
+    requires bytes_le_stride { bytes ≤ stride }
+    requires height_in_bounds { stride * height ≤ length plane.now }
+    ensures { result.now ≡ source_row plane.now stride bytes (row_of top_down height s) }
+{
+    let from = if top_down { s } else { height - 1 - s };
+    let start = from * stride;
+    &plane[start..start + bytes]
+}
+
 // All rows of a plane that are stored as they are. They have a loop of their own, because one that holds every row kind
 // jumps by the kind at each row, and loads the constants of the others.
 fn copy_rows(
@@ -74,16 +95,11 @@ fn copy_rows(
     ensures dst_after { dst.new ≡ put dst.old at (cat (λ s. padded stored (source_row plane.now stride bytes (row_of top_down height s))) height) }
     ensures starts_after { starts.new ≡ noted (λ s. at - origin + s * stored) starts.old height }
 {
-    let mut o = at;
-    let mut y = 0;
-    while y < height {
-        note_start(starts, y, o - origin);
-        let from = if top_down { y } else { height - 1 - y };
-        let start = from * stride;
-        let end = start + bytes;
-        copy_row(&plane[start..end], stored, dst, o);
-        o += stored;
-        y += 1;
+    for s in 0..height {
+        let o = at + s * stored;
+        note_start(starts, s, o - origin);
+        let src = source_row(plane, stride, bytes, height, top_down, s);
+        copy_row(src, stored, dst, o);
     }
 }
 
@@ -131,15 +147,11 @@ impl RowPack {
         ensures { result ≡ pack_bits self }
     {
         match self {
-            RowPack::Bgra32 { bgr: _ } => 32,
-            RowPack::Bgr24 { bgr: _ } => 24,
+            RowPack::Bgra32 { .. } => 32,
+            RowPack::Bgr24 { .. } => 24,
             RowPack::Words16 => 16,
             RowPack::Indexed { bpp } => bpp,
-            RowPack::Masks {
-                in_bpp: _,
-                bgr: _,
-                layout,
-            } => layout.bpp,
+            RowPack::Masks { layout, .. } => layout.bpp,
         }
     }
 
@@ -148,15 +160,11 @@ impl RowPack {
         ensures { result ≡ pack_bytes self }
     {
         match self {
-            RowPack::Bgra32 { bgr: _ } => 4,
-            RowPack::Bgr24 { bgr: _ } => 3,
+            RowPack::Bgra32 { .. } => 4,
+            RowPack::Bgr24 { .. } => 3,
             RowPack::Words16 => 2,
-            RowPack::Indexed { bpp: _ } => 1,
-            RowPack::Masks {
-                in_bpp,
-                bgr: _,
-                layout: _,
-            } => in_bpp,
+            RowPack::Indexed { .. } => 1,
+            RowPack::Masks { in_bpp, .. } => in_bpp,
         }
     }
 
@@ -164,17 +172,7 @@ impl RowPack {
     fn in_mask_mode(self) -> bool
         ensures { result ≡ in_mask_mode self }
     {
-        match self {
-            RowPack::Bgra32 { bgr: _ } => false,
-            RowPack::Bgr24 { bgr: _ } => false,
-            RowPack::Words16 => false,
-            RowPack::Indexed { bpp: _ } => false,
-            RowPack::Masks {
-                in_bpp: _,
-                bgr: _,
-                layout: _,
-            } => true,
-        }
+        matches!(self, RowPack::Masks { .. })
     }
 
     // Whether rows are stored as they are, with padding after them.
@@ -182,15 +180,10 @@ impl RowPack {
         ensures { result ≡ is_copied self }
     {
         match self {
-            RowPack::Bgra32 { bgr } => bgr,
-            RowPack::Bgr24 { bgr } => bgr,
+            RowPack::Bgra32 { bgr } | RowPack::Bgr24 { bgr } => bgr,
             RowPack::Words16 => true,
             RowPack::Indexed { bpp } => bpp == 8,
-            RowPack::Masks {
-                in_bpp: _,
-                bgr: _,
-                layout: _,
-            } => false,
+            RowPack::Masks { .. } => false,
         }
     }
 
@@ -200,19 +193,8 @@ impl RowPack {
         requires fields_len { length fields.old ≡ 1024 }
         ensures { FieldsOk self fields.new }
     {
-        match self {
-            RowPack::Bgra32 { bgr: _ } => {}
-            RowPack::Bgr24 { bgr: _ } => {}
-            RowPack::Words16 => {}
-            RowPack::Indexed { bpp: _ } => {}
-            RowPack::Masks {
-                in_bpp: _,
-                bgr,
-                layout,
-            } => {
-                let table = widening_table();
-                layout.put_fields(bgr, &table, fields);
-            }
+        if let RowPack::Masks { bgr, layout, .. } = self {
+            layout.put_fields(bgr, &widening_table(), fields);
         }
     }
 
@@ -237,8 +219,7 @@ impl RowPack {
         }
     }
 
-    // The stored rows of a plane, one after the other. Each row's source is the part of the plane that
-    // starts at its own offset.
+    // The stored rows of a plane, one after the other.
     fn pack_rows(
         self,
         fields: &[u32],
@@ -264,16 +245,11 @@ impl RowPack {
         let bytes = width as usize * self.source_bytes();
         let stored = row_stride(width, self.bits_per_pixel());
         let h = height as usize;
-        let mut o = at;
-        let mut y = 0;
-        while y < h {
-            note_start(starts, y, o - origin);
-            let from = if top_down { y } else { h - 1 - y };
-            let start = from * stride;
-            let end = start + bytes;
-            self.row(fields, &plane[start..end], width, dst, o);
-            o += stored;
-            y += 1;
+        for s in 0..h {
+            let o = at + s * stored;
+            note_start(starts, s, o - origin);
+            let src = source_row(plane, stride, bytes, h, top_down, s);
+            self.row(fields, src, width, dst, o);
         }
     }
 
@@ -315,17 +291,24 @@ impl RowPack {
             return;
         }
         if self.in_mask_mode() {
-            let mut space = [0u32; 1024];
-            let fields: &mut [u32] = &mut space;
-            self.put_fields(fields);
+            let mut fields = [0u32; 1024];
+            self.put_fields(&mut fields);
             self.pack_rows(
-                fields, plane, stride, width, height, top_down, dst, at, starts, origin,
+                &fields, plane, stride, width, height, top_down, dst, at, starts, origin,
             );
             return;
         }
-        let none = [0u32; 0];
         self.pack_rows(
-            &none, plane, stride, width, height, top_down, dst, at, starts, origin,
+            &[],
+            plane,
+            stride,
+            width,
+            height,
+            top_down,
+            dst,
+            at,
+            starts,
+            origin,
         );
     }
 }

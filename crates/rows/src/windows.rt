@@ -1,10 +1,11 @@
 // What the codes of a window of cells take, from a word of flags: of each of 64 cells whether the next one is
 // equal.
 ghost use Rattle.std.specs.Prelude.{◌≡◌, ℕ, ◌+◌, ◌-◌, ◌*◌, ◌^◌, ◌<◌, ◌≤◌, Bool, true, false, not, ◌⊎◌, length, ◌==◌, slice_index};
-ghost use Rattle.rows.specs.RleCodes.{depth_of, cells};
+ghost use Rattle.rows.specs.RleCodes.{is_rle4, depth_of, cells};
 ghost use Rattle.rows.specs.Words.{word, leading};
 ghost use Rattle.rows.specs.Windows.{bit, from_bits, total, twins, flags_at, charged};
 
+use crate::rle::Rle;
 use crate::words::le64;
 
 fn same(a: u8, b: u8) -> u8
@@ -45,56 +46,26 @@ fn packed(flags: &[u8]) -> u64
         | flag_byte(flags, 56) << 56
 }
 
-// The bits of an index.
-fn index_mask(four: bool) -> u8
-    ensures { result ≡ 2 ^ depth_of four - 1 }
-{
-    if four { 15 } else { 255 }
-}
-
 // Bit k says that the cell k after `at` is equal to the one after it, where an index has the bits of a mask. The loop
 // over bytes is vector code.
 fn masked_flags(row: &[u8], at: usize, mask: u8) -> u64
     requires { at + 65 ≤ length row.now }
     ensures { (d : ℕ) → mask ≡ 2 ^ d - 1 → result ≡ from_bits (twins (cells d row.now) at) 64 }
 {
-    let mut space = [0u8; 64];
-    let flags: &mut [u8] = &mut space;
-    let mut k = 0;
-    while k < 64 {
+    let mut flags = [0u8; 64];
+    for k in 0..64 {
         let j = at + k;
         flags[k] = same(row[j] & mask, row[j + 1] & mask);
-        k += 1;
     }
-    packed(flags)
+    packed(&flags)
 }
 
-// The same where an index has all 8 bits.
-fn flag_word(row: &[u8], at: usize) -> u64
-    requires { at + 65 ≤ length row.now }
-    ensures { result ≡ from_bits (twins row.now at) 64 }
-{
-    masked_flags(row, at, 255)
-}
-
-// The flags of the window at `at`, of indices of 8 bits: near the row's end from the row's last 65 cells.
-pub(crate) fn window_flags(row: &[u8], at: usize) -> u64
+// The flags of the window at `at`: near the row's end from the row's last 65 cells.
+pub(crate) fn window_flags(row: &[u8], at: usize, rle: Rle) -> u64
     requires { (65 ≤ length row.now) × (at + 2 ≤ length row.now) }
-    ensures { result ≡ from_bits (flags_at row.now at) 64 }
+    ensures { result ≡ from_bits (flags_at (cells (depth_of (is_rle4 rle)) row.now) at) 64 }
 {
-    let last = row.len() - 65;
-    if at <= last {
-        return flag_word(row, at);
-    }
-    flag_word(row, last) >> (at - last) as u32
-}
-
-// The same of indices of either depth.
-pub(crate) fn window_flags_of(row: &[u8], at: usize, four: bool) -> u64
-    requires { (65 ≤ length row.now) × (at + 2 ≤ length row.now) }
-    ensures { result ≡ from_bits (flags_at (cells (depth_of four) row.now) at) 64 }
-{
-    let mask = index_mask(four);
+    let mask = rle.mask();
     let last = row.len() - 65;
     if at <= last {
         return masked_flags(row, at, mask);
@@ -110,7 +81,7 @@ fn charges(e: u64) -> u64
     let d = e << 1;
     let l = !(e | d);
     let s = l & !(l << 1);
-    let q = l & !std::num::wrapping_add_u64(l, s & 0x5555555555555555);
+    let q = l & !l.wrapping_add(s & 0x5555555555555555);
     e & !d | l & (q ^ 0xAAAAAAAAAAAAAAAA) | l & s << 1
 }
 
@@ -119,7 +90,7 @@ pub(crate) fn charge_below(e: u64, v: usize) -> usize
     requires { (1 ≤ v) × (v ≤ 64) }
     ensures { ((f : ℕ → Bool) → e ≡ from_bits f 64 → result ≡ 2 * total (charged f) v) × (result ≤ 128) }
 {
-    2 * (u64::count_ones(charges(e) & (0xFFFF_FFFF_FFFF_FFFF >> (64 - v) as u32)) as usize)
+    2 * ((charges(e) & (0xFFFF_FFFF_FFFF_FFFF >> (64 - v) as u32)).count_ones() as usize)
 }
 
 // Past the last cell of the window's last run that ends in it; 0 where none does.
@@ -127,19 +98,19 @@ pub(crate) fn whole_runs(e: u64) -> usize
     ensures { ((f : ℕ → Bool) → e ≡ from_bits f 64 → (result ≡ 0) ⊎ ((2 ≤ result) × (result ≤ 64) × (f (result - 2) ≡ true) × (f (result - 1) ≡ false))) × (result ≤ 64) × ((f : ℕ → Bool) → e ≡ from_bits f 64 → (k : ℕ) → result ≤ k + 1 → k < 63 → f k ≡ true → f (k + 1) ≡ true) }
 {
     let ends = e << 1 & !e;
-    64 - u64::leading_zeros(ends) as usize
+    64 - ends.leading_zeros() as usize
 }
 
 // How many flags are set, up to the first that is not.
 pub(crate) fn flags_set(e: u64) -> usize
     ensures { ((f : ℕ → Bool) → e ≡ from_bits f 64 → result ≡ leading f 0 64) × (result ≤ 64) }
 {
-    u64::trailing_zeros(!e) as usize
+    (!e).trailing_zeros() as usize
 }
 
 // How many are not set, up to the first that is.
 pub(crate) fn flags_clear(e: u64) -> usize
     ensures { ((f : ℕ → Bool) → e ≡ from_bits f 64 → result ≡ leading (λ k. not (f k)) 0 64) × (result ≤ 64) }
 {
-    u64::trailing_zeros(e) as usize
+    e.trailing_zeros() as usize
 }

@@ -39,13 +39,13 @@ fn surface(x: usize, y: usize) -> u8
     requires y_bound { y < 200 }
 {
     let level = ratio(square(distance(x)) * 153, 121 * (60 + y)) + y / 4;
-    if level < 255 { level as u8 } else { 255 }
+    level.min(255) as u8
 }
 
 // Puts the surface into a plane.
 fn paint(plane: &mut [u8]) {
-    for i in 0..plane.len() {
-        plane[i] = surface(i % SIDE, i / SIDE % SIDE);
+    for (i, cell) in plane.iter_mut().enumerate() {
+        *cell = surface(i % SIDE, i / SIDE % SIDE);
     }
 }
 

@@ -3,7 +3,7 @@ use mathlib.Core.Bool.{true, false}
 use mathlib.Core.List.{[], ◌∷◌, map}
 use mathlib.Core.Path.{◌≡◌, refl}
 use Rattle.leaves.specs.Texts.{bytes_of}
-use Rattle.arguments.specs.Numbers.{digit_of, digits_from, digits_of_of, number_of}
+use Rattle.arguments.specs.Numbers.{digit_of, with_digit, digits_from, digits_of_of, number_of}
 use Rattle.arguments.specs.Words.{up_to, onto, pieces, items_of, alike}
 use Rattle.leaves.specs.Lists.{cat}
 use Rattle.messages.specs.Messages.{decimal_in, decimal}
@@ -13,12 +13,12 @@ use Rattle.sheets.specs.Sheets.{is_separator, separator_of, without_mark, lines_
 -- commas, semicolons with CR LF and no end, a tab beside a blank, one column, no row, and a cell that is no number
 pub sheets_hold : map (λ t. sheet_rows (bytes_of t)) ("1,2\n3,0x1F\n" ∷ "1;2\r\n3;4" ∷ " 7\t8\n" ∷ "5\n6\n" ∷ "" ∷ "1,x\n" ∷ [])
     ≡ ((1 ∷ 2 ∷ []) ∷ (3 ∷ 31 ∷ []) ∷ []) ∷ ((1 ∷ 2 ∷ []) ∷ (3 ∷ 4 ∷ []) ∷ []) ∷ ((7 ∷ 8 ∷ []) ∷ []) ∷ ((5 ∷ []) ∷ (6 ∷ []) ∷ []) ∷ [] ∷ ((1 ∷ 1152921504606846976 ∷ []) ∷ []) ∷ []
-unfolding bytes_of is_separator separator_of without_mark lines_of without_return after_blanks index_of row_of rows_of sheet_rows digit_of digits_from digits_of_of number_of up_to onto pieces items_of alike
+unfolding bytes_of is_separator separator_of without_mark lines_of without_return after_blanks index_of row_of rows_of sheet_rows digit_of with_digit digits_from digits_of_of number_of up_to onto pieces items_of alike
 sheets_hold = refl
 
 -- the same behind a byte order mark
 pub mark_skipped : sheet_rows (0xEF ∷ 0xBB ∷ 0xBF ∷ bytes_of "9\n") ≡ (9 ∷ []) ∷ []
-unfolding bytes_of is_separator separator_of without_mark lines_of without_return after_blanks index_of row_of rows_of sheet_rows digit_of digits_from digits_of_of number_of up_to onto pieces items_of alike
+unfolding bytes_of is_separator separator_of without_mark lines_of without_return after_blanks index_of row_of rows_of sheet_rows digit_of with_digit digits_from digits_of_of number_of up_to onto pieces items_of alike
 mark_skipped = refl
 
 -- a grid, an index over the largest, and a row that is shorter than the first

@@ -1,89 +1,124 @@
 -- Laws of a sheet's cells and rows at a place.
 use mathlib.Core.Path.{◌≡◌, refl, sym, ap, ◌∙◌}
-use mathlib.Core.Bool.{Bool, true, false, true≢false, cond, ◌&&◌}
+use mathlib.Core.Bool.{Bool, true, false, true≢false, cond, not, ◌&&◌, ◌||◌}
 use mathlib.Core.List.{List, [], ◌∷◌, ◌++◌, map}
-use Prim.Native.Nat.{ℕ, suc, ◌+◌, ◌-◌, ◌*◌, ◌≤◌, ◌<◌}
-use native.Mathlib.Decide.{dec_lt}
+use Prim.Native.Nat.{ℕ, suc, ◌+◌, ◌-◌, ◌*◌, ◌^◌, ◌≤◌, ◌<◌}
 use native.Mathlib.Nat.{zero-mul, mul-le-mul_right, suc-mul}
 use native.Mathlib.Omega.{arith}
-use borrow.Author.Tests.{eqb-true, eq-eqb, ne_eqb, le-leb, lt-leb}
-use lib.Dec.{eqb, leb}
-use lib.ListN.{length, get_or, take, drop, length-append, length-take, length-drop, drop_of_length-le}
-use lib.Seq.{drop-drop}
+use borrow.Author.Tests.{eqb-true, eqb-false, eq-eqb, ne_eqb, le-leb, lt-leb, ltb-false}
+use denote.Ref.{Bor}
+use lib.Dec.{eqb, ltb, leb}
+use lib.ListN.{length, get_or, take, drop, length-append, drop_of_length-le}
 use Rattle.leaves.specs.Put.{put}
 use Rattle.leaves.proofs.Puts.{put-append}
+use Rattle.std.specs.Cmp.Lexicographic.{pointwise}
+use Rattle.std.specs.List.{find, list_any, position, position_or_len}
+use Rattle.std.specs.Option.{unwrap_or, option_map, MatchOption}
+use Rattle.std.specs.Prelude.{Option, Some, None}
+use Rattle.std.proofs.lemmas.Option.{cond_some}
+use Rattle.arguments.specs.Numbers.{number_of}
 use Rattle.arguments.specs.Words.{up_to, items_of, alike}
-use Rattle.arguments.proofs.Pieces.{split, items_more, items_last, pieces-at, pieces_end, unlike_length}
+use Rattle.arguments.proofs.Pieces.{split, none_false, pieces-at, pieces_end}
 use Rattle.sheets.specs.Sheets.{is_separator, separator_of, lines_of, without_return, after_blanks, index_of, row_of, rows_of, width_of, are_indices, up_to_bad, is_grid, cells_of}
 
 -- ---- separators, blanks and line ends
 
-module _ (text : List ℕ) (i : ℕ) where
-  pub separator_end : length text ≤ i → 44 ≡ separator_of (drop i text)
-  unfolding separator_of
-  separator_end h = rw (drop_of_length-le text h)
+turned : (x y : ℕ) → eqb x y ≡ eqb y x
+turned x y = go (eqb x y) refl
+  where
+    go : (b : Bool) → eqb x y ≡ b → b ≡ eqb y x
+    go true q = sym (eq-eqb y x (sym (eqb-true x y q)))
+    go false q = sym (ne_eqb y x (λ e. eqb-false x y q (sym e)))
 
-  pub blanks_end : length text ≤ i → drop i text ≡ after_blanks (drop i text)
-  unfolding after_blanks
-  blanks_end h = rw (drop_of_length-le text h)
+or_false : (b : Bool) → (b || false) ≡ b
+or_false true = refl
+or_false false = refl
 
-  module _ (inside : i < length text) where
-    pub separator_here : is_separator (get_or text i 0) ≡ true → get_or text i 0 ≡ separator_of (drop i text)
-    unfolding separator_of
-    separator_here e = rw (split text i inside, e)
+pub separates : (x : ℕ) → list_any (λ (y : ℕ). eqb y x) (44 ∷ 59 ∷ 9 ∷ []) ≡ is_separator x
+unfolding is_separator
+separates x = rw (turned 44 x, turned 59 x, turned 9 x, or_false (eqb x 9))
 
-    pub separator_later : is_separator (get_or text i 0) ≡ false → separator_of (drop (i + 1) text) ≡ separator_of (drop i text)
-    unfolding separator_of
-    separator_later e = rw (split text i inside, e)
+pub as_found : (found : Option ℕ) → found ≡ option_map (λ (x : ℕ). x) found
+as_found None = refl
+as_found (Some x) = refl
 
-    pub blanks_over : (get_or text i 0 ≡ 32 → ⊥) → drop i text ≡ after_blanks (drop i text)
-    unfolding after_blanks
-    blanks_over n = rw (split text i inside, ne_eqb (get_or text i 0) 32 n)
+pub first_separator : (text : List ℕ) → unwrap_or (find is_separator text) 44 ≡ separator_of text
+unfolding separator_of
+first_separator [] = refl
+first_separator (x ∷ xs) = go (is_separator x) (first_separator xs)
+  where
+    go : (b : Bool) → unwrap_or (find is_separator xs) 44 ≡ separator_of xs → unwrap_or (cond b (Some x) (find is_separator xs)) 44 ≡ cond b x (separator_of xs)
+    go true e = refl
+    go false e = e
 
-    pub blanks_more : get_or text i 0 ≡ 32 → after_blanks (drop (i + 1) text) ≡ after_blanks (drop i text)
-    unfolding after_blanks
-    blanks_more e = rw (split text i inside, eq-eqb (get_or text i 0) 32 e)
+-- a test for what is no blank
+abbrev pub no_blank : ℕ → Bool
+no_blank x = not (eqb x 32)
 
--- a text that begins as another is as long
-pub long_enough : (text start : List ℕ) (n : ℕ) → length start ≡ n → alike (take n text) start ≡ true → n ≤ length text
-long_enough text start n l e =
-    elim (dec_lt (length text) n) [
-      | yes p ↦ absurd (true≢false (sym e ∙ unlike_length (take n text) start (λ q. let z : ⊥ = omega (arith, length-take n text) in z)))
-      | no p ↦ omega arith
-    ]
+pub blanks_over : (cell : List ℕ) → after_blanks cell ≡ drop (position_or_len no_blank cell) cell
+unfolding after_blanks
+blanks_over [] = refl
+blanks_over (x ∷ xs) = go (eqb x 32) (blanks_over xs)
+  where
+    go : (b : Bool) → after_blanks xs ≡ drop (position_or_len no_blank xs) xs
+        → cond b (after_blanks xs) (x ∷ xs) ≡ drop (cond (not (not b)) (1 + position_or_len no_blank xs) 0) (x ∷ xs)
+    go true e =
+        let n = position_or_len no_blank xs in
+        let one : suc (position_or_len no_blank xs) ≡ 1 + position_or_len no_blank xs = omega arith in
+        e ∙ ap (λ (k : ℕ). drop k (x ∷ xs)) one
+    go false e = refl
+
+module _ (cell : List ℕ) where
+  pub blanks_before : (n : ℕ) → position no_blank cell ≡ Some n → drop n cell ≡ after_blanks cell
+  blanks_before n e =
+      let p = cond_some (ltb (position_or_len no_blank cell) (length cell)) (position_or_len no_blank cell) n e in
+      ap (λ (k : ℕ). drop k cell) (sym p.1) ∙ sym (blanks_over cell)
+
+  pub blanks_alone : position no_blank cell ≡ None → [] ≡ after_blanks cell
+  blanks_alone e =
+      let h = ltb-false (position_or_len no_blank cell) (length cell) (none_false (ltb (position_or_len no_blank cell) (length cell)) (position_or_len no_blank cell) e) in
+      sym (blanks_over cell ∙ drop_of_length-le cell h)
+
+-- the test for a byte order mark
+pub same_turned : (a b : List ℕ) → pointwise eqb a b ≡ alike b a
+unfolding alike
+same_turned [] [] = refl
+same_turned [] (y ∷ ys) = refl
+same_turned (x ∷ xs) [] = refl
+same_turned (x ∷ xs) (y ∷ ys) = rw (turned x y, same_turned xs ys)
+
+and_true : (b : Bool) → (b && true) ≡ b
+and_true true = refl
+and_true false = refl
+
+-- the last byte, against CR
+pub last_is : (line : List ℕ) (b : Bool) → pointwise eqb (drop (length line - 1) line) (13 ∷ []) ≡ b → eqb (get_or line (length line - 1) 0) 13 ≡ b
+last_is [] b e = e
+last_is (x ∷ xs) b e =
+    let n = length (x ∷ xs) - 1 in
+    let inside : length (x ∷ xs) - 1 < length (x ∷ xs) = omega arith in
+    let past : length (x ∷ xs) ≤ length (x ∷ xs) - 1 + 1 = omega arith in
+    sym (and_true (eqb (get_or (x ∷ xs) n 0) 13)) ∙ (rw (split (x ∷ xs) n inside, drop_of_length-le (x ∷ xs) past) at e)
+
+pub stripped : (line : Bor (List ℕ)) (got : Option (Bor (List ℕ)))
+    → MatchOption got (pointwise eqb (drop (length line.now - 1) line.now) (13 ∷ []) ≡ false)
+    (λ x. (pointwise eqb (drop (length line.now - 1) line.now) (13 ∷ []) ≡ true) × (x.now ≡ take (length line.now - 1) line.now) × (length x.now + 1 ≡ length line.now))
+    → (unwrap_or got line).now ≡ without_return line.now
+unfolding without_return
+stripped line None h = rw (last_is line.now false h)
+stripped line (Some x) h = rw (last_is line.now true h.0) h.1
 
 -- ---- a line's cells
 
--- the indices of the cells from a place on; none past the line's end
-abbrev pub rest_of : ℕ → List ℕ → ℕ → List ℕ
-rest_of separator line from = cond (leb from (length line)) (map index_of (items_of separator (drop from line))) []
+-- an index up to `most`
+module _ (cell : List ℕ) (most : ℕ) (small : most < 256) where
+  pub no_number : None ≡ number_of (after_blanks cell) → index_of cell ≤ most → ⊥
+  unfolding index_of
+  no_number e h = let k : 2 ^ 60 ≤ most = rw (← e) at h in omega arith
 
-module _ (separator : ℕ) (line : List ℕ) where
-  pub rest_start : rest_of separator line 0 ≡ map index_of (items_of separator line)
-  rest_start = rw (le-leb 0 (length line) (omega arith))
-
-  pub rest_end : (from : ℕ) → length line < from → rest_of separator line from ≡ []
-  rest_end from h = rw (lt-leb from (length line) h)
-
-  pub rest_step : (from to : ℕ) → from ≤ length line → to ≡ from + length (up_to separator (drop from line)) → to ≤ length line
-      → rest_of separator line from ≡ index_of (up_to separator (drop from line)) ∷ rest_of separator line (to + 1)
-  rest_step from to h e k =
-      elim (dec_lt to (length line)) [
-        | yes p ↦ rw (le-leb from (length line) h, le-leb (to + 1) (length line) (omega arith)) (ap (map index_of) (more p))
-        | no p ↦ rw (le-leb from (length line) h, lt-leb (to + 1) (length line) (omega arith)) (ap (map index_of) (last (omega arith)))
-      ]
-    where
-      rest : length (drop from line) ≡ length line - from
-      rest = length-drop from line
-
-      more : to < length line → items_of separator (drop from line) ≡ up_to separator (drop from line) ∷ items_of separator (drop (to + 1) line)
-      more p =
-          let n : from + (length (up_to separator (drop from line)) + 1) ≡ to + 1 = omega arith in
-          items_more separator (drop from line) (omega (arith, rest))
-          ∙ ap (λ (l : List ℕ). up_to separator (drop from line) ∷ items_of separator l) (drop-drop (length (up_to separator (drop from line)) + 1) from line ∙ ap (λ (j : ℕ). drop j line) n)
-
-      last : length line ≤ to → items_of separator (drop from line) ≡ up_to separator (drop from line) ∷ []
-      last p = items_last separator (drop from line) (omega (arith, rest))
+  pub number_is : (n : ℕ) → Some n ≡ number_of (after_blanks cell) → n ≡ index_of cell
+  unfolding index_of
+  number_is n e = ap (λ (o : Option ℕ). unwrap_or o (2 ^ 60)) e
 
 -- cells up to one that is no index
 module _ (most v : ℕ) (vs : List ℕ) where
@@ -98,15 +133,6 @@ module _ (most v : ℕ) (vs : List ℕ) where
 pub bad_end : (most : ℕ) → up_to_bad most [] ≡ []
 unfolding up_to_bad
 bad_end most = refl
-
-pub bad_length : (most : ℕ) (vs : List ℕ) → length (up_to_bad most vs) ≤ length vs
-unfolding up_to_bad
-bad_length most [] = omega arith
-bad_length most (v ∷ vs) = go (leb v most) (bad_length most vs)
-  where
-    go : (b : Bool) → length (up_to_bad most vs) ≤ length vs → length (cond b (v ∷ up_to_bad most vs) []) ≤ suc (length vs)
-    go true h = omega arith
-    go false h = omega arith
 
 -- a row without one
 pub all_good : (most : ℕ) (vs : List ℕ) → length (up_to_bad most vs) ≡ length vs → up_to_bad most vs ≡ vs

@@ -1,10 +1,11 @@
 -- What a sheet of indices holds: rows of numbers, as a spreadsheet writes them out (docs/DECISIONS.md, "The programs").
-use Rattle.std.specs.Prelude.{Bool, true, false, cond, ◌&&◌, ◌||◌, ◌≡◌, List, [], ◌∷◌, ◌++◌, map, ℕ, ◌-◌, ◌*◌, ◌≤◌, ◌<◌, eqb, leb, length, get_or, take, drop}
+use Rattle.std.specs.Prelude.{Bool, true, false, cond, ◌&&◌, ◌||◌, ◌≡◌, Result, Ok, Err, unwrap_or, List, [], ◌∷◌, ◌++◌, map, ℕ, ◌-◌, ◌*◌, ◌^◌, ◌≤◌, ◌<◌, eqb, leb, length, get_or, take, drop}
 use Rattle.leaves.specs.Put.{put}
 use Rattle.arguments.specs.Numbers.{number_of}
 use Rattle.arguments.specs.Words.{alike, pieces, items_of}
-use Rattle.sheets.specs.declared.Sheet.{Sheet}
-use Rattle.sheets.specs.declared.Sheet.TheVariants.{Rows, NotAnIndex, Ragged, NoRoom}
+use Rattle.sheets.specs.declared.Grid.{Grid}
+use Rattle.sheets.specs.declared.SheetError.{SheetError}
+use Rattle.sheets.specs.declared.SheetError.TheVariants.{NotAnIndex, Ragged, NoRoom}
 
 -- the first comma, semicolon or tab of a text stands between its cells; a comma where there is none
 unfoldable pub is_separator : ℕ → Bool
@@ -32,7 +33,7 @@ after_blanks (x ∷ xs) = cond (eqb x 32) (after_blanks xs) (x ∷ xs)
 
 -- a cell's index, over every index where it is no number
 unfoldable pub index_of : List ℕ → ℕ
-index_of cell = number_of (after_blanks cell)
+index_of cell = unwrap_or (number_of (after_blanks cell)) (2 ^ 60)
 
 unfoldable pub row_of : ℕ → List ℕ → List ℕ
 row_of separator line = map index_of (items_of separator (without_return line))
@@ -66,12 +67,12 @@ cells_of (row ∷ rows) = row ++ cells_of rows
 
 -- what reading a sheet's rows promises: the size and the cells of a grid, and a trouble of any other sheet; which cell or row it names is free, and so
 -- is the memory behind it
-abbrev pub SheetRead : Sheet → ℕ → List (List ℕ) → List ℕ → List ℕ → Type 0
-SheetRead (Rows width height cells) most rows was later =
-    (is_grid most width rows ≡ true) × (width ≡ width_of rows) × (height ≡ length rows) × (cells ≡ length (cells_of rows)) × (cells ≤ length was) × (later ≡ put was 0 (cells_of rows))
-SheetRead (NotAnIndex row column from to) most rows was later = is_grid most (width_of rows) rows ≡ false
-SheetRead (Ragged row cells width) most rows was later = is_grid most (width_of rows) rows ≡ false
-SheetRead NoRoom most rows was later = length was < length rows * width_of rows
+abbrev pub SheetRead : Result Grid SheetError → ℕ → List (List ℕ) → List ℕ → List ℕ → Type 0
+SheetRead (Ok grid) most rows was later =
+    (is_grid most grid.width rows ≡ true) × (grid.width ≡ width_of rows) × (grid.height ≡ length rows) × (grid.cells ≡ length (cells_of rows)) × (grid.cells ≤ length was) × (later ≡ put was 0 (cells_of rows))
+SheetRead (Err (NotAnIndex row column from to)) most rows was later = is_grid most (width_of rows) rows ≡ false
+SheetRead (Err (Ragged row cells width)) most rows was later = is_grid most (width_of rows) rows ≡ false
+SheetRead (Err NoRoom) most rows was later = length was < length rows * width_of rows
 
 -- a row's cells up to the first that is no index: what the code has read of a row
 unfoldable pub up_to_bad : ℕ → List ℕ → List ℕ

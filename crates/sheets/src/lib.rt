@@ -1,90 +1,96 @@
 // A sheet: rows of numbers in a text, as a spreadsheet writes them out. Indices are read, and numbers written.
 #![tactic(auto)]
 
-ghost use Rattle.std.specs.Prelude.{◌≡◌, [], map, ◌+◌, ◌-◌, ◌≤◌, length, drop};
+ghost use Rattle.std.specs.Prelude.{◌≡◌, [], map, ◌+◌, ◌-◌, ◌≤◌, SomeIff, length, drop};
 ghost use Rattle.leaves.specs.Put.{put};
 ghost use Rattle.arguments.specs.Words.{part_of, items_of, item_at};
 ghost use Rattle.sheets.specs.Sheets.{separator_of, without_mark, without_return, after_blanks, index_of, rows_of, sheet_rows, width_of, up_to_bad, is_separator, SheetRead};
 
 use arguments::numbers::number;
-use arguments::words::{either, end_of, item, items, part, same};
+use arguments::words::{end_of, item, items, part};
 
 pub mod write;
 
+// A sheet that was read: cells in a row, rows, and all cells.
 #[derive(Clone, Copy)]
-pub enum Sheet {
-    // A grid: cells in a row, rows, and all cells.
-    Rows(usize, usize, usize),
-    // Row and column from 0, and where the row's line starts and ends in the text.
-    NotAnIndex(usize, usize, usize, usize),
-    // A row from 0, its cells, and those of the first row.
-    Ragged(usize, usize, usize),
+pub struct Grid {
+    pub width: usize,
+    pub height: usize,
+    pub cells: usize,
+}
+
+// Why a sheet was not read; rows and columns count from 0.
+#[derive(Clone, Copy)]
+pub enum SheetError {
+    // A cell, and where its row's line starts and ends in the text.
+    NotAnIndex {
+        row: usize,
+        column: usize,
+        from: usize,
+        to: usize,
+    },
+    // A row, its cells, and those of the first row.
+    Ragged {
+        row: usize,
+        count: usize,
+        width: usize,
+    },
     NoRoom,
 }
 
 fn is_separator(byte: u8) -> bool
     ensures { result ≡ is_separator byte }
 {
-    either(byte == b',', either(byte == b';', byte == b'\t'))
+    b",;\t".contains(&byte)
 }
 
 // What stands between the cells.
 fn separator(text: &[u8]) -> u8
     ensures { result ≡ separator_of text.now }
 {
-    let mut i = 0;
-    while i < text.len() {
-        if is_separator(text[i]) {
-            return text[i];
-        }
-        i += 1;
-    }
-    b','
+    text.iter()
+        .copied()
+        .find(|byte| is_separator(*byte))
+        .unwrap_or(b',')
 }
 
 // Where the first line starts: behind a byte order mark.
 fn start(text: &[u8]) -> usize
     ensures { (drop result text.now ≡ without_mark text.now) × (result ≤ length text.now) }
 {
-    if same(part(text, 0, 3), b"\xEF\xBB\xBF") {
-        return 3;
+    if text.starts_with(b"\xEF\xBB\xBF") {
+        3
+    } else {
+        0
     }
-    0
 }
 
 // A line without the CR of a CR LF.
 fn without_return<'a>(line: &'a [u8]) -> &'a [u8]
     ensures { result.now ≡ without_return line.now }
 {
-    let n = line.len();
-    if n == 0 {
-        return line;
-    }
-    let last = n - 1;
-    if line[last] == b'\r' {
-        return part(line, 0, last);
-    }
-    line
+    line.strip_suffix(b"\r").unwrap_or(line)
 }
 
-// Where a number starts: people write blanks behind a comma.
-fn after_blanks(cell: &[u8]) -> usize
-    ensures { drop result cell.now ≡ after_blanks cell.now }
+// A cell without the blanks in front, which people write behind a comma.
+fn after_blanks<'a>(cell: &'a [u8]) -> &'a [u8]
+    ensures { result.now ≡ after_blanks cell.now }
 {
-    let mut from = 0;
-    while from < cell.len() {
-        if cell[from] != b' ' {
-            return from;
-        }
-        from += 1;
+    match cell.iter().position(|byte| *byte != b' ') {
+        Some(from) => &cell[from..],
+        None => b"",
     }
-    from
 }
 
-fn index(cell: &[u8]) -> u64
-    ensures { result ≡ index_of cell.now }
+// The index up to `most` that a cell holds.
+fn index(cell: &[u8], most: u8) -> Option<u8>
+    ensures { SomeIff result (index_of cell.now ≤ most) (index_of cell.now) }
 {
-    number(part(cell, after_blanks(cell), cell.len()))
+    let n = number(after_blanks(cell))?;
+    if n > u64::from(most) {
+        return None;
+    }
+    Some(n as u8)
 }
 
 // Reads a line's cells up to the first that is no index, and answers how many they are.
@@ -92,17 +98,13 @@ fn read_cells(line: &[u8], separator: u8, most: u8, cells: &mut [u8], at: usize)
     requires { at + length (items_of separator line.now) ≤ length cells.old }
     ensures { (result ≡ length (up_to_bad most (map index_of (items_of separator line.now)))) × (cells.new ≡ put cells.old at (up_to_bad most (map index_of (items_of separator line.now)))) }
 {
-    let mut from = 0;
     let mut n = 0;
-    while from <= line.len() {
-        let to = end_of(line, from, separator);
-        let v = index(part(line, from, to));
-        if v > most as u64 {
+    for cell in line.split(|byte| *byte == separator) {
+        let Some(index) = index(cell, most) else {
             return n;
-        }
-        cells[at + n] = v as u8;
+        };
+        cells[at + n] = index;
         n += 1;
-        from = to + 1;
     }
     n
 }
@@ -119,7 +121,13 @@ fn row_width(text: &[u8], at: usize, separator: u8) -> usize
     items(without_return(part(text, at, to)), separator)
 }
 
-fn read_rows(text: &[u8], start: usize, separator: u8, most: u8, cells: &mut [u8]) -> Sheet
+fn read_rows(
+    text: &[u8],
+    start: usize,
+    separator: u8,
+    most: u8,
+    cells: &mut [u8],
+) -> Result<Grid, SheetError>
     requires { start ≤ length text.now }
     ensures { SheetRead result most (rows_of separator (drop start text.now)) cells.old cells.new }
 {
@@ -132,24 +140,37 @@ fn read_rows(text: &[u8], start: usize, separator: u8, most: u8, cells: &mut [u8
         let line = without_return(part(text, at, to));
         let count = items(line, separator);
         if count != width {
-            return Sheet::Ragged(rows, count, width);
+            return Err(SheetError::Ragged {
+                row: rows,
+                count,
+                width,
+            });
         }
         if cells.len() - filled < width {
-            return Sheet::NoRoom;
+            return Err(SheetError::NoRoom);
         }
         let n = read_cells(line, separator, most, cells, filled);
         if n != width {
-            return Sheet::NotAnIndex(rows, n, at, to);
+            return Err(SheetError::NotAnIndex {
+                row: rows,
+                column: n,
+                from: at,
+                to,
+            });
         }
         filled += width;
         rows += 1;
         at = to + 1;
     }
-    Sheet::Rows(width, rows, filled)
+    Ok(Grid {
+        width,
+        height: rows,
+        cells: filled,
+    })
 }
 
 // Reads a sheet whose indices go to `most`: its size, and its cells into lent memory.
-pub fn read_sheet(text: &[u8], most: u8, cells: &mut [u8]) -> Sheet
+pub fn read_sheet(text: &[u8], most: u8, cells: &mut [u8]) -> Result<Grid, SheetError>
     ensures { SheetRead result most (sheet_rows text.now) cells.old cells.new }
 {
     read_rows(text, start(text), separator(text), most, cells)

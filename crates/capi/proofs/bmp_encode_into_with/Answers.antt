@@ -1,18 +1,17 @@
 use Rattle.capi.proofs.InterfaceLaws.{encode_known, encode_unknown}
 use Rattle.capi.specs.Interface.{format_at}
-use mathlib.Core.Path.{sym, ◌∙◌}
 use Rattle.capi.proofs.bmp_encode_into_with.Goals as goal
 
 pub returns-in_default : goal.returns-in_default
 returns-in_default c =
     let a = c.args in
     let l = format_at a.source.format in
-    encode_unknown l a.source a.options a.settings a.plane.now a.palette.now a.icc.now a.linked_icc.now a.offset a.out.now (sym c.in_default.is ∙ c.format_at-named.ensures)
+    encode_unknown l a.source a.options a.settings a.plane.now a.palette.now a.icc.now a.linked_icc.now a.offset a.out.now c.refused.result c.in_default.ensures c.refused.ensures
 
 pub returns : goal.returns
 returns c =
     let a = c.args in
     let l = format_at a.source.format in
     let e = c.encode_into-answer in
-    encode_known l c.in-Known.format a.source a.options a.settings a.plane.now a.palette.now a.icc.now a.linked_icc.now c.source_of-src.result c.options_of-chosen.result (sym c.in-Known.is ∙ c.format_at-named.ensures) c.source_of-src.ensures c.options_of-chosen.ensures
+    encode_known l c.in-Some.format a.source a.options a.settings a.plane.now a.palette.now a.icc.now a.linked_icc.now c.source_of-src.result c.options_of-chosen.result (c.in-Some.ensures) c.source_of-src.ensures c.options_of-chosen.ensures
     a.offset a.out.now e.new.out e.result c.encode_answer.result e.ensures c.encode_answer.ensures

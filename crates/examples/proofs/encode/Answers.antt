@@ -1,15 +1,10 @@
 use Rattle.std.proofs.Common.{arith}
-use Rattle.rows.proofs.RleBlocks.{row_short}
+use Rattle.rows.specs.RleCodes.{is_rle4, depth_of}
+use Rattle.rows.proofs.RleBlocks.{depth_le, row_short}
 use Rattle.examples.proofs.encode.Goals as goal
 
-pub encode_rle4_row-requires : goal.encode_rle4_row-requires
-encode_rle4_row-requires c = omega (arith, row_short 4 (omega arith) c.args.row.now)
-
-pub returns-then-four : goal.returns-then-four
-returns-then-four c = omega (arith, row_short 4 (omega arith) c.args.row.now)
-
-pub encode_rle8_row-requires : goal.encode_rle8_row-requires
-encode_rle8_row-requires c = omega (arith, row_short 8 (omega arith) c.args.row.now)
+pub encode_rle_row-requires : goal.encode_rle_row-requires
+encode_rle_row-requires c = let a = c.args in let four = is_rle4 a.rle in omega (arith, row_short (depth_of four) (depth_le four) a.row.now)
 
 pub returns : goal.returns
-returns c = omega (arith, row_short 8 (omega arith) c.args.row.now)
+returns c = let a = c.args in let four = is_rle4 a.rle in omega (arith, row_short (depth_of four) (depth_le four) a.row.now)

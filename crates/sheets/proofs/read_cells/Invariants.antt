@@ -1,10 +1,7 @@
-use Prim.Native.Nat.{◌+◌, ◌-◌, ◌≤◌}
+use mathlib.Core.Path.{◌≡◌}
 use lib.ListN.{length}
-use Rattle.sheets.proofs.CellLoop.{Left}
+use Rattle.sheets.proofs.CellLoop.{line_of, Left}
 use Rattle.sheets.proofs.read_cells.Given as goal
 
-abbrev pub invariant-loop-from : goal.invariant-loop-from
-invariant-loop-from l = (l.from ≤ length l.line + 1) × Left l.separator l.line l.most l.at l.initial.cells l.cells l.from l.n
-
-abbrev pub decreases-loop-from : goal.decreases-loop-from
-decreases-loop-from l = length l.line + 1 - l.from
+abbrev pub invariant-loop-cell : goal.invariant-loop-cell
+invariant-loop-cell l = (l.n ≡ length l.yielded) × Left (line_of l.fn.separator l.line) l.most l.at l.initial.cells l.cells l.n

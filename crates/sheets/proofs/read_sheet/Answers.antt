@@ -2,7 +2,9 @@ use mathlib.Core.List.{List}
 use mathlib.Core.Path.{subst, ◌≡◌}
 use Prim.Native.Nat.{ℕ}
 use lib.ListN.{drop}
-use Rattle.sheets.specs.declared.Sheet.{Sheet}
+use Rattle.std.specs.Prelude.{Result}
+use Rattle.sheets.specs.declared.Grid.{Grid}
+use Rattle.sheets.specs.declared.SheetError.{SheetError}
 use Rattle.sheets.specs.Sheets.{separator_of, without_mark, rows_of, sheet_rows, SheetRead}
 use Rattle.sheets.proofs.read_sheet.Goals as goal
 
@@ -10,7 +12,7 @@ rows_are : (text : List ℕ) (start separator : ℕ) → drop start text ≡ wit
 unfolding sheet_rows
 rows_are text start separator e f = rw (e, f)
 
-as-sheet : (r : Sheet) (most : ℕ) (rows sheet : List (List ℕ)) (was later : List ℕ) → rows ≡ sheet → SheetRead r most rows was later → SheetRead r most sheet was later
+as-sheet : (r : Result Grid SheetError) (most : ℕ) (rows sheet : List (List ℕ)) (was later : List ℕ) → rows ≡ sheet → SheetRead r most rows was later → SheetRead r most sheet was later
 as-sheet r most rows sheet was later e h = subst (λ (x : List (List ℕ)). SheetRead r most x was later) e h
 
 pub returns : goal.returns

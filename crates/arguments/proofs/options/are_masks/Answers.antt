@@ -1,23 +1,20 @@
-use mathlib.Core.List.{List}
-use mathlib.Core.Bool.{true, false}
-use mathlib.Core.Path.{sym, ap, ◌∙◌, ◌≡◌}
+use mathlib.Core.Path.{sym, ap, ◌∙◌}
 use Prim.Native.Nat.{ℕ}
-use lib.Dec.{leb}
+use Rattle.std.proofs.Common.{rules, tests}
+use Rattle.std.specs.Prelude.{Option, is_some}
+use Rattle.arguments.specs.Numbers.{number_of, number16, at_most}
 use Rattle.arguments.specs.Options.{are_masks}
-use Rattle.arguments.specs.Numbers.{number_of, are_numbers}
-use Rattle.arguments.specs.Words.{items_of, item_at}
+use Rattle.arguments.proofs.NumberLaws.{within}
 use Rattle.arguments.proofs.options.are_masks.Goals as goal
 
-depth : (list : List ℕ) (n : ℕ) → are_numbers 5 0 list ≡ true → n ≡ number_of (item_at (items_of 44 list) 0) → leb n 0xFFFF ≡ are_masks list
-unfolding are_masks
-depth list n e f = rw (e, f)
-
-not_five : (list : List ℕ) → are_numbers 5 0 list ≡ false → false ≡ are_masks list
-unfolding are_masks
-not_five list e = rw e
-
 pub returns-then-are_numbers : goal.returns-then-are_numbers
-returns-then-are_numbers c = depth c.args.list.now c.number.result (sym c.are_numbers.ensures ∙ c.if-are_numbers.true) (c.number.ensures.0 ∙ ap number_of c.item.ensures)
+unfolding are_masks number16
+returns-then-are_numbers c =
+    let e = sym c.are_numbers.ensures ∙ c.if-are_numbers.true in
+    rw e (within 0xFFFF c.number.result c.is_some_and.result _ c.is_some_and.ensures (λ k h. search (rules, tests)) ∙ ap (λ (n : Option ℕ). is_some (at_most 0xFFFF n)) (c.number.ensures.value ∙ ap number_of c.item.ensures))
 
 pub returns-else-are_numbers : goal.returns-else-are_numbers
-returns-else-are_numbers c = c.if-are_numbers.false ∙ not_five c.args.list.now (sym c.are_numbers.ensures ∙ c.if-are_numbers.false)
+unfolding are_masks
+returns-else-are_numbers c =
+    let e = sym c.are_numbers.ensures ∙ c.if-are_numbers.false in
+    rw e c.if-are_numbers.false

@@ -1,16 +1,16 @@
-use mathlib.Core.List.{List}
-use mathlib.Core.Bool.{Bool, ◌||◌}
-use mathlib.Core.Path.{ap, ◌∙◌, ◌≡◌}
-use Prim.Native.Nat.{ℕ}
-use Rattle.arguments.specs.Options.{option_named, stands_alone, carries_value, is_whole}
+use mathlib.Core.Path.{sym, ◌∙◌}
+use Rattle.arguments.specs.Options.{option_named, is_whole}
+use Rattle.arguments.proofs.OptionPlaces.{alone_named}
 use Rattle.arguments.proofs.options.is_whole.Goals as goal
 
-one_of : (w : List ℕ) (a b : Bool) → a ≡ stands_alone (option_named w) → b ≡ carries_value w → (a || b) ≡ is_whole w
+pub returns-then-is_some_and : goal.returns-then-is_some_and
 unfolding is_whole
-one_of w a b e f = rw (e, f)
+returns-then-is_some_and c =
+    let alone = alone_named (option_named c.args.word.now) c.is_some_and.result (rw c.option_named.ensures at c.is_some_and.ensures) in
+    rw (sym alone ∙ c.if-is_some_and.true) c.if-is_some_and.true
 
-pub returns : goal.returns
-returns c =
-    let alone = c.stands_alone in
-    c.either.ensures
-    ∙ one_of c.args.word.now alone.result c.carries_value.result (alone.ensures ∙ ap stands_alone c.option_named.ensures) c.carries_value.ensures
+pub returns-else-is_some_and : goal.returns-else-is_some_and
+unfolding is_whole
+returns-else-is_some_and c =
+    let alone = alone_named (option_named c.args.word.now) c.is_some_and.result (rw c.option_named.ensures at c.is_some_and.ensures) in
+    rw (sym alone ∙ c.if-is_some_and.false) c.carries_value.ensures

@@ -1,31 +1,28 @@
 use mathlib.Core.Path.{sym, ap, ◌∙◌}
-use native.Mathlib.Omega.{arith}
-use lib.ListN.{drop}
-use Rattle.arguments.specs.Words.{words_of}
-use Rattle.arguments.specs.Options.{option_named}
-use Rattle.arguments.proofs.OptionLaws.{last_start, last_end, last_here, last_other}
-use Rattle.arguments.proofs.options.last_given.Goals.{else-option_named-option, then-option_named-option}
-use Rattle.arguments.proofs.options.last_given.Invariants.{given}
+use borrow.Author.Tests.{eqb-true, eqb-false}
+use Rattle.arguments.specs.Options.{option_named, place_of}
+use Rattle.arguments.proofs.OptionPlaces.{same_named}
+use Rattle.arguments.proofs.OptionLaws.{words_found, last_start, last_end, last_here, last_other, found_last}
+use Rattle.arguments.proofs.options.last_given.Goals.{else-eq, then-eq}
 use Rattle.arguments.proofs.options.last_given.Goals as goal
 
 pub loop-at-init : goal.loop-at-init
-loop-at-init c = (omega arith, last_start c.args.option c.args.words.now)
+loop-at-init c = (tt {0}, last_start (place_of c.args.option) c.args.words.now)
 
 pub loop-at-preserved : goal.loop-at-preserved
 loop-at-preserved c =
-    let a = c.args in
-    let text = a.words.now in
+    let text = c.args.words.now in
+    let option = place_of c.args.option in
     let l = c.loop-at in
     let next = c.after_option-at in
-    let option = c.option_named.ensures ∙ ap option_named c.word.ensures in
-    let inside = c.loop-at-test.true in (
-      elim (c.if-option_named-option.branch) [ then-option_named-option w ↦ omega arith | else-option_named-option w ↦ omega arith ],
-      l.invariant.1
-          ∙ (elim (c.if-option_named-option.branch) [ then-option_named-option w ↦ last_here a.option text l.at next.result inside (next.ensures.1 inside) (words_of (drop l.last text)) (sym option ∙ w.if-option_named-option.true) ∙ sym (ap (given a.option text next.result) w.last-is) | else-option_named-option w ↦ last_other a.option text l.at next.result inside (next.ensures.1 inside) (words_of (drop l.last text)) (λ e. w.if-option_named-option.false (option ∙ e)) ∙ sym (ap (given a.option text next.result) w.last-is) ]),
-    )
+    let inside = c.loop-at-test.true in
+    let is = rw (c.option_named.ensures, ap option_named c.word.ensures) at c.eq.ensures in
+    let same = is ∙ same_named _ c.args.option in
+    elim (c.if-eq.branch) [ then-eq w ↦ rw w.last-is (inside, l.invariant.1 ∙ last_here option text l.at next.result inside (next.ensures.1 inside) (words_found text l.last) (eqb-true _ option (sym same ∙ w.if-eq.true))) | else-eq w ↦ rw w.last-is (l.invariant.0, l.invariant.1 ∙ last_other option text l.at next.result inside (next.ensures.1 inside) (words_found text l.last) (eqb-false _ option (sym same ∙ w.if-eq.false))) ]
 
 pub returns : goal.returns
 returns c =
-    let a = c.args in
+    let text = c.args.words.now in
+    let option = place_of c.args.option in
     let l = c.loop-at in
-    (omega arith, sym (l.invariant.1 ∙ last_end a.option a.words.now l.last l.at c.loop-at-test.false))
+    found_last option text l.last l.invariant.0 (l.invariant.1 ∙ last_end option text (words_found text l.last) l.at c.loop-at-test.false)

@@ -1,23 +1,17 @@
-use mathlib.Core.Path.{ap}
+use mathlib.Core.Path.{◌∙◌, ap}
+use Prim.Native.Nat.{ℕ}
 use native.Mathlib.Omega.{arith}
 use lib.Dec.{eqb}
-use lib.ListN.{length, get_or}
-use Rattle.arguments.proofs.Pieces.{one_at_most, length_step, items_end}
+use lib.ListN.{length}
+use Rattle.std.proofs.Common.{rules, tests}
+use Rattle.std.proofs.lemmas.Iterator.Splits.{YieldsList-from_slice_split}
+use Rattle.std.proofs.lemmas.Iterator.Consumers.{count_from_yields_List}
+use Rattle.arguments.proofs.Pieces.{items_split, items_most}
 use Rattle.arguments.proofs.words.items.Goals as goal
-
-pub overflow_add-count : goal.overflow_add-count
-overflow_add-count c =
-    let a = c.args in
-    let i = c.loop-i.i in
-    omega (arith, one_at_most (eqb (get_or a.list.now i 0) a.mark) c.marks-count.result c.marks-count.ensures)
-
-pub loop-i-preserved : goal.loop-i-preserved
-loop-i-preserved c =
-    let a = c.args in
-    let i = c.loop-i.i in
-    omega (arith, one_at_most (eqb (get_or a.list.now i 0) a.mark) c.marks-count.result c.marks-count.ensures, length_step a.mark a.list.now i (omega arith) c.marks-count.result c.marks-count.ensures)
 
 pub returns : goal.returns
 returns c =
     let a = c.args in
-    omega (arith, ap length (items_end a.mark a.list.now c.loop-i.i (omega arith)))
+    let e = c.split.ensures in
+    let is = count_from_yields_List c.split.result c.count.result c.count.ensures.ran (YieldsList-from_slice_split _ (λ (b : ℕ). eqb b a.mark) a.list.now e.rest e.done e.closure (λ x b q k. search (rules, tests))) ∙ ap length (items_split a.mark a.list.now) in
+    (is, omega (arith, is, items_most a.mark a.list.now))

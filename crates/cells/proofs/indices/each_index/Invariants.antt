@@ -2,11 +2,7 @@ use Rattle.format.specs.Decode.{cell_at}
 use Rattle.leaves.specs.Lists.{tab}
 use Rattle.cells.proofs.Loops.{SoFar}
 use lib.ListN.{drop}
-use Prim.Native.Nat.{◌-◌, ◌≤◌}
 use Rattle.cells.proofs.indices.each_index.Given as goal
 
 abbrev pub invariant-loop-x : goal.invariant-loop-x
-invariant-loop-x l = (l.x ≤ l.n) × SoFar l.initial.cells l.to (tab (cell_at l.depth (drop l.from l.file)) l.x) l.cells
-
-abbrev pub decreases-loop-x : goal.decreases-loop-x
-decreases-loop-x l = l.n - l.x
+invariant-loop-x l = SoFar l.initial.cells l.to (tab (cell_at l.depth (drop l.from l.file)) l.x) l.cells

@@ -1,29 +1,34 @@
-use mathlib.Core.Bool.{Bool, not, ◌&&◌, ◌||◌}
-use mathlib.Core.List.{List}
-use mathlib.Core.Path.{◌≡◌}
+use mathlib.Core.Bool.{Bool, true, false, not, ◌&&◌, ◌||◌}
+use mathlib.Core.List.{List, [], ◌∷◌}
+use mathlib.Core.Path.{refl, ◌∙◌, ◌≡◌}
 use Prim.Native.Nat.{ℕ}
+use Rattle.std.specs.Prelude.{None}
+use Rattle.arguments.specs.Options.{is_given}
 use Rattle.leaves.specs.Texts.{bytes_of}
-use Rattle.arguments.specs.Options.{option_names, option_named, is_given}
+use Rattle.arguments.specs.Options.{option_names, option_named}
 use Rattle.arguments.specs.Words.{up_to, place_among, alike, words_of}
+use Rattle.arguments.specs.declared.options.CommandOption.TheVariants.{Edges, Lows, Highs}
+use Rattle.command.specs.declared.check.JointFault.TheVariants.{NoCells, PlaneAndCsv, PricesBesideCells, PricesApart}
 use Rattle.command.specs.Commands.{first_found, one_given, some_prices, all_prices, cells_fault}
+use Rattle.command.proofs.CheckLaws.{or_three, given_any, first_test, next_test}
 use Rattle.command.proofs.check.cells_fault.Goals as goal
 
 -- the tests one after the other
-joined : (ws : List (List ℕ)) (plane csv prices some one two other beside all partly : Bool) (a b d r : ℕ)
-    → plane ≡ is_given 19 ws → csv ≡ is_given 20 ws → prices ≡ one_given 26 3 ws → some ≡ (csv || prices) → one ≡ (plane || some)
-    → a ≡ first_found 0 (not one) 1 → two ≡ (plane && csv) → b ≡ first_found a two 2 → other ≡ (plane || csv) → beside ≡ (prices && other)
-    → d ≡ first_found b beside 11 → all ≡ all_prices ws → partly ≡ (prices && not all) → r ≡ first_found d partly 12
-    → r ≡ cells_fault ws
-unfolding cells_fault some_prices bytes_of option_names option_named place_among alike up_to
-joined ws plane csv prices some one two other beside all partly a b d r qplane qcsv qprices qsome qone qa qtwo qb qother qbeside qd qall qpartly qr =
-    rw (qr, qpartly, qall, qd, qbeside, qother, qb, qtwo, qa, qone, qsome, qprices, qcsv, qplane)
+joined : (ws : List (List ℕ)) (plane csv prices all : Bool) → plane ≡ is_given 19 ws → csv ≡ is_given 20 ws → prices ≡ one_given 26 3 ws
+    → all ≡ (is_given 26 ws && (is_given 27 ws && (is_given 28 ws && true)))
+    → first_found (first_found (first_found (first_found None (not (plane || csv || prices)) NoCells) (plane && csv) PlaneAndCsv) (prices && (plane || csv)) PricesBesideCells) (prices && not all) PricesApart
+    ≡ cells_fault ws
+unfolding cells_fault some_prices all_prices bytes_of option_names option_named place_among alike up_to
+joined ws plane csv prices all p c q l = rw (or_three plane csv prices, p, c, q, l, and_true (is_given 28 ws))
+  where
+    and_true : (b : Bool) → (b && true) ≡ b
+    and_true true = refl
+    and_true false = refl
 
 pub returns : goal.returns
 returns c =
-    joined (words_of c.args.words.now)
-    c.is_given-plane.result c.is_given-csv.result c.one_given-prices.result c.either.result c.either-2.result c.both.result c.either-3.result c.both-2.result c.all_prices.result c.both-3.result
-    c.first_found-a.result c.first_found-b.result c.first_found-c.result c.first_found.result
-    c.is_given-plane.ensures c.is_given-csv.ensures c.one_given-prices.ensures c.either.ensures
-    c.either-2.ensures c.first_found-a.ensures c.both.ensures c.first_found-b.ensures
-    c.either-3.ensures c.both-2.ensures c.first_found-c.ensures c.all_prices.ensures
-    c.both-3.ensures c.first_found.ensures
+    let ws = words_of c.args.words.now in
+    next_test PricesApart _ c.or-3.ensures c.then_some-4.ensures
+    (next_test PricesBesideCells _ c.or-2.ensures c.then_some-3.ensures (next_test PlaneAndCsv _ c.or.ensures c.then_some-2.ensures (first_test NoCells _ c.then_some.ensures)))
+    ∙ joined ws c.is_given-plane.result c.is_given-csv.result c.any_given-prices.result c.all_given.result c.is_given-plane.ensures c.is_given-csv.ensures
+    (c.any_given-prices.ensures ∙ given_any ws 26 (Edges ∷ Lows ∷ Highs ∷ []) refl) c.all_given.ensures

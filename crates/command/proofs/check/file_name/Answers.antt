@@ -1,46 +1,51 @@
-use mathlib.Core.Bool.{Bool, true, false, ◌&&◌, ◌||◌}
-use mathlib.Core.List.{List, []}
-use mathlib.Core.Path.{sym, ◌∙◌, ◌≡◌}
+use mathlib.Core.Bool.{Bool, true, false, cond}
+use mathlib.Core.List.{List, [], ◌∷◌}
+use mathlib.Core.Path.{refl, sym, ◌∙◌, ◌≡◌}
 use Prim.Native.Nat.{ℕ, ◌+◌, ◌≤◌, ◌<◌}
+use native.Mathlib.Omega.{arith}
 use borrow.Author.Tests.{lt-ltb, le-ltb}
-use lib.Dec.{eqb}
+use lib.Dec.{ltb}
+use Rattle.arguments.specs.Options.{value_of}
 use Rattle.leaves.specs.Texts.{bytes_of}
-use Rattle.arguments.specs.Options.{option_names, option_named, is_given, value_of}
+use Rattle.arguments.specs.Options.{option_names, option_named}
 use Rattle.arguments.specs.Words.{up_to, place_among, alike, words_of}
+use Rattle.arguments.specs.declared.options.CommandOption.{CommandOption}
+use Rattle.arguments.specs.declared.options.CommandOption.TheVariants.{Plane, Csv, Palette, Icc, LinkedIcc, Out, Read, Edges, Lows, Highs}
+use Rattle.arguments.proofs.OptionPlaces.{in_row}
+use Rattle.messages.proofs.MessageLaws.{got_is}
 use Rattle.command.specs.Commands.{is_skipped, file_named}
 use Rattle.command.proofs.check.file_name.Goals as goal
 
+abbrev files : List CommandOption
+files = Plane ∷ Csv ∷ Palette ∷ Icc ∷ LinkedIcc ∷ Out ∷ Read ∷ Edges ∷ Lows ∷ Highs ∷ []
+
 module _ (file : ℕ) (ws : List (List ℕ)) where
-  no-file : 9 < file → [] ≡ file_named file ws
+  no_file : 10 ≤ file → [] ≡ file_named file ws
   unfolding file_named
-  no-file h = rw (lt-ltb 9 file h)
+  no_file h = rw (lt-ltb 9 file (omega arith))
 
-  skips : (r s a b : Bool) → r ≡ (eqb file 3 && s) → s ≡ (a || b) → a ≡ is_given 3 ws → b ≡ is_given 23 ws → r ≡ is_skipped file ws
-  unfolding is_skipped bytes_of option_names option_named place_among alike up_to
-  skips r s a b e f g h = rw (e, f, g, h)
+  skipped : is_skipped file ws ≡ true → [] ≡ file_named file ws
+  unfolding file_named bytes_of option_names option_named place_among alike up_to
+  skipped e = rw e (go (ltb 9 file))
+    where
+      go : (b : Bool) → [] ≡ cond b [] (cond true [] (value_of (19 + file) ws))
+      go true = refl
+      go false = refl
 
-  module _ (h : file ≤ 9) where
-    skipped : is_skipped file ws ≡ true → [] ≡ file_named file ws
-    unfolding file_named
-    skipped e = rw (le-ltb 9 file h, e)
+  named : file < 10 → is_skipped file ws ≡ false → (n : ℕ) → n ≡ 19 + file → value_of n ws ≡ file_named file ws
+  unfolding file_named bytes_of option_names option_named place_among alike up_to
+  named h e n is = rw (is, le-ltb 9 file (omega arith), e)
 
-    named : is_skipped file ws ≡ false → value_of (19 + file) ws ≡ file_named file ws
-    unfolding file_named bytes_of option_names option_named place_among alike up_to
-    named e = rw (le-ltb 9 file h, e)
-
-pub returns-then-file-gt9 : goal.returns-then-file-gt9
-returns-then-file-gt9 c = no-file c.args.file (words_of c.args.words.now) c.if-file-gt9.true
-
-pub returns-then-both : goal.returns-then-both
-returns-then-both c =
+pub returns-then-is_skipped : goal.returns-then-is_skipped
+returns-then-is_skipped c =
     let a = c.args in
-    let ws = words_of a.words.now in
-    let skip = skips a.file ws c.both.result c.either.result c.is_given.result c.is_given-2.result c.both.ensures c.either.ensures c.is_given.ensures c.is_given-2.ensures in
-    skipped a.file ws c.if-file-gt9.false (sym skip ∙ c.if-both.true)
+    skipped a.file (words_of a.words.now) (sym c.is_skipped.ensures ∙ c.if-is_skipped.true)
 
-pub returns : goal.returns
-returns c =
+pub returns-in-Some : goal.returns-in-Some
+returns-in-Some c =
     let a = c.args in
-    let ws = words_of a.words.now in
-    let skip = skips a.file ws c.both.result c.either.result c.is_given.result c.is_given-2.result c.both.ensures c.either.ensures c.is_given.ensures c.is_given-2.ensures in
-    c.value_of.ensures ∙ named a.file ws c.if-file-gt9.false (sym skip ∙ c.if-both.false)
+    let row = in_row 19 10 files refl a.file c.in-Some.option.now (got_is files a.file c.in-Some.option c.in-Some.ensures.lookup) in
+    c.value_of.ensures ∙ named a.file (words_of a.words.now) row.1 (sym c.is_skipped.ensures ∙ c.if-is_skipped.false) _ row.0
+
+pub returns-in-None : goal.returns-in-None
+returns-in-None c = no_file c.args.file (words_of c.args.words.now) c.in-None.ensures.lookup.3

@@ -1,40 +1,47 @@
 use mathlib.Core.Bool.{Bool, not, ◌&&◌, ◌||◌}
-use mathlib.Core.List.{List}
-use mathlib.Core.Path.{◌≡◌}
+use mathlib.Core.List.{List, [], ◌∷◌}
+use mathlib.Core.Path.{refl, ap, ◌∙◌, ◌≡◌}
 use Prim.Native.Nat.{ℕ}
 use lib.Dec.{eqb}
-use Rattle.leaves.specs.declared.image.BmpPixelFormat.{BmpPixelFormat}
 use Rattle.leaves.specs.Formats.{is_indexed, bits_per_pixel}
+use Rattle.arguments.specs.Options.{is_given, format_asked}
 use Rattle.leaves.specs.Texts.{bytes_of}
-use Rattle.arguments.specs.Options.{option_names, option_named, is_given, format_asked}
+use Rattle.arguments.specs.Options.{option_names, option_named}
 use Rattle.arguments.specs.Words.{up_to, place_among, alike, words_of}
+use Rattle.arguments.specs.declared.options.CommandOption.TheVariants.{Edges, Lows, Highs}
+use Rattle.command.specs.declared.check.JointFault.TheVariants.{NoWidth, NoHeight, SizeWithCsv, CsvNotIndexed, PricesNotPal8, TwoPalettes, NoOut}
 use Rattle.command.specs.Commands.{first_found, one_given, some_prices, cells_fault, write_fault}
+use Rattle.command.proofs.CheckLaws.{or_three, given_any, next_test}
 use Rattle.command.proofs.check.write_fault.Goals as goal
 
 -- the tests one after the other
-joined : (ws : List (List ℕ)) (csv prices plane raw w h s hs size indexed w2 three h2 four five six other palette sample seven out : Bool) (format : BmpPixelFormat) (depth cells a b d e f i r : ℕ)
-    → csv ≡ is_given 20 ws → prices ≡ one_given 26 3 ws → plane ≡ is_given 19 ws → raw ≡ (plane || prices) → w ≡ is_given 11 ws → h ≡ is_given 12 ws
-    → s ≡ is_given 13 ws → hs ≡ (h || s) → size ≡ (w || hs) → format ≡ format_asked ws → indexed ≡ is_indexed format → depth ≡ bits_per_pixel format
-    → cells ≡ cells_fault ws → w2 ≡ is_given 11 ws → three ≡ (raw && not w2) → a ≡ first_found cells three 3 → h2 ≡ is_given 12 ws
-    → four ≡ (raw && not h2) → b ≡ first_found a four 4 → five ≡ (csv && size) → d ≡ first_found b five 5 → six ≡ (csv && not indexed)
-    → e ≡ first_found d six 6 → other ≡ (prices && not (eqb depth 8)) → f ≡ first_found e other 13 → palette ≡ is_given 21 ws → sample ≡ is_given 5 ws
-    → seven ≡ (palette && sample) → i ≡ first_found f seven 7 → out ≡ is_given 24 ws → r ≡ first_found i (not out) 8
-    → r ≡ write_fault ws
+joined : (ws : List (List ℕ)) (csv prices plane width height stride palette sample indexed out : Bool) (depth : ℕ) → csv ≡ is_given 20 ws → prices ≡ one_given 26 3 ws → plane ≡ is_given 19 ws
+    → width ≡ is_given 11 ws → height ≡ is_given 12 ws → stride ≡ is_given 13 ws → palette ≡ is_given 21 ws → sample ≡ is_given 5 ws → indexed ≡ is_indexed (format_asked ws) → out ≡ is_given 24 ws
+    → depth ≡ bits_per_pixel (format_asked ws)
+    → first_found
+    (first_found
+    (first_found
+    (first_found
+    (first_found (first_found (first_found (cells_fault ws) ((plane || prices) && not width) NoWidth) ((plane || prices) && not height) NoHeight) (csv && (width || height || stride)) SizeWithCsv)
+    (csv && not indexed) CsvNotIndexed)
+    (prices && not (eqb depth 8)) PricesNotPal8)
+    (palette && sample) TwoPalettes)
+    (not out) NoOut
+    ≡ write_fault ws
 unfolding write_fault some_prices bytes_of option_names option_named place_among alike up_to
-joined ws csv prices plane raw w h s hs size indexed w2 three h2 four five six other palette sample seven out format depth cells a b d e f i r qcsv qprices qplane qraw qw qh qs qhs qsize qformat qindexed qdepth qcells qw2 qthree qa qh2 qfour qb qfive qd qsix qe qother qf qpalette qsample qseven qi qout qr =
-    rw (qr, qout, qi, qseven, qsample, qpalette, qf, qother, qe, qsix, qd, qfive, qb, qfour, qh2, qa, qthree, qw2, qcells, qdepth, qindexed, qformat, qsize, qhs, qs, qh, qw, qraw, qplane, qprices, qcsv)
+joined ws csv prices plane width height stride palette sample indexed out depth a b c d e f g h i j k = rw (or_three width height stride, a, b, c, d, e, f, g, h, i, j, k)
 
 pub returns : goal.returns
 returns c =
-    joined (words_of c.args.words.now)
-    c.is_given-csv.result c.one_given-prices.result c.is_given.result c.either-raw.result c.is_given-2.result c.is_given-3.result c.is_given-4.result c.either.result c.either-size.result c.is_indexed-indexed.result c.is_given-5.result c.both.result c.is_given-6.result c.both-2.result c.both-3.result c.both-4.result c.both-5.result c.is_given-7.result c.is_given-8.result c.both-6.result c.is_given-9.result
-    c.format_asked-format.result
-    c.bits_per_pixel-depth.result c.cells_fault.result c.first_found-a.result c.first_found-b.result c.first_found-c.result c.first_found-d.result c.first_found-e.result c.first_found-f.result c.first_found.result
-    c.is_given-csv.ensures c.one_given-prices.ensures c.is_given.ensures c.either-raw.ensures
-    c.is_given-2.ensures c.is_given-3.ensures c.is_given-4.ensures c.either.ensures
-    c.either-size.ensures c.format_asked-format.ensures c.is_indexed-indexed.ensures c.bits_per_pixel-depth.ensures
-    c.cells_fault.ensures c.is_given-5.ensures c.both.ensures c.first_found-a.ensures
-    c.is_given-6.ensures c.both-2.ensures c.first_found-b.ensures c.both-3.ensures
-    c.first_found-c.ensures c.both-4.ensures c.first_found-d.ensures c.both-5.ensures
-    c.first_found-e.ensures c.is_given-7.ensures c.is_given-8.ensures c.both-6.ensures
-    c.first_found-f.ensures c.is_given-9.ensures c.first_found.ensures
+    let ws = words_of c.args.words.now in
+    let format = c.format_asked-format in
+    next_test NoOut _ c.or-7.ensures c.then_some-7.ensures
+    (next_test TwoPalettes _ c.or-6.ensures c.then_some-6.ensures
+    (next_test PricesNotPal8 _ c.or-5.ensures c.then_some-5.ensures
+    (next_test CsvNotIndexed _ c.or-4.ensures c.then_some-4.ensures
+    (next_test SizeWithCsv _ c.or-3.ensures c.then_some-3.ensures
+    (next_test NoHeight _ c.or-2.ensures c.then_some-2.ensures (next_test NoWidth _ c.or.ensures c.then_some.ensures c.cells_fault.ensures))))))
+    ∙ joined ws c.is_given-csv.result c.any_given-prices.result c.is_given.result c.is_given-width.result c.is_given-height.result c.is_given-2.result c.is_given-3.result c.is_given-4.result
+    c.is_indexed-indexed.result c.is_given-5.result c.bits_per_pixel-depth.result c.is_given-csv.ensures (c.any_given-prices.ensures ∙ given_any ws 26 (Edges ∷ Lows ∷ Highs ∷ []) refl)
+    c.is_given.ensures c.is_given-width.ensures c.is_given-height.ensures c.is_given-2.ensures c.is_given-3.ensures c.is_given-4.ensures (c.is_indexed-indexed.ensures ∙ ap is_indexed format.ensures)
+    c.is_given-5.ensures (c.bits_per_pixel-depth.ensures ∙ ap bits_per_pixel format.ensures)

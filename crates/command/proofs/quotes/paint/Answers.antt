@@ -16,12 +16,12 @@ returns-then-cells-n c =
     let a = c.args in
     too_few_cells (words_of a.words.now) a.edges.now a.lows.now a.highs.now a.cells.now c.told-then-cells-n.ensures c.tell_line.ensures c.if-highs-n.false c.if-cells-n.true refl
 
-pub returns-then-number-ne0 : goal.returns-then-number-ne0
-returns-then-number-ne0 c =
+pub returns-in-Err : goal.returns-in-Err
+returns-in-Err c =
     let a = c.args in
-    not_painted (words_of a.words.now) a.edges.now a.lows.now a.highs.now a.cells.now c.if-highs-n.false c.if-cells-n.false c.shade_quotes-number.result c.if-number-ne0.true c.shade_quotes-number.ensures c.refused.ensures.0 c.refused.ensures.1
+    not_painted (words_of a.words.now) a.edges.now a.lows.now a.highs.now a.cells.now c.if-highs-n.false c.if-cells-n.false c.in-Err.why c.number.result c.number.ensures c.in-Err.ensures c.refused.ensures.0 c.refused.ensures.1
 
 pub returns : goal.returns
 returns c =
     let a = c.args in
-    painted (words_of a.words.now) a.edges.now a.lows.now a.highs.now a.cells.now c.if-highs-n.false c.if-cells-n.false c.shade_quotes-number.result c.if-number-ne0.false c.shade_quotes-number.ensures c.told-2.ensures
+    painted (words_of a.words.now) a.edges.now a.lows.now a.highs.now a.cells.now c.if-highs-n.false c.if-cells-n.false c.in_default.ensures c.told-2.ensures

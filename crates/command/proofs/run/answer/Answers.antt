@@ -10,15 +10,15 @@ use Rattle.command.specs.Runs.{written_answer}
 use Rattle.command.proofs.RunLaws.{file_text, refused_text}
 use Rattle.command.proofs.run.answer.Goals as goal
 
-pub returns-in-File : goal.returns-in-File
-returns-in-File c =
+pub returns-in-Ok : goal.returns-in-Ok
+returns-in-Ok c =
     let a = c.args in
     let said = c.tell_written-n in
     let name = c.value_of in
     let file = c.head_of in (
-      sym (ap (written_answer a.bound said.result) c.in-File.is),
-      says_as (file_text (words_of a.words.now) a.out.now name.result.now file.result.now c.in-File.format c.in-File.bytes a.encoded c.in-File.is name.ensures file.ensures) said.ensures,
+      sym (ap (written_answer a.bound said.result) c.in-Ok.is),
+      says_as (file_text (words_of a.words.now) a.out.now name.result.now file.result.now c.in-Ok.file a.encoded c.in-Ok.is name.ensures file.ensures) said.ensures,
     )
 
-pub returns-in-Refused : goal.returns-in-Refused
-returns-in-Refused c = let a = c.args in let number = c.number-number in let said = c.tell_refused-n in ((λ z. record { bytes = 0; bound = a.bound; text = said.result; status = 1; refusal = number.ensures z }) ∙ sym (ap (written_answer a.bound said.result) c.in-Refused.is), says_as (ap (λ (n : ℕ). filled (decimal n) (item_at causes n) [] [] refused_line) number.ensures ∙ refused_text (words_of a.words.now) a.out.now c.in-Refused.why a.encoded c.in-Refused.is) said.ensures)
+pub returns-in-Err : goal.returns-in-Err
+returns-in-Err c = let a = c.args in let number = c.number-number in let said = c.tell_refused-n in ((λ z. record { bytes = 0; bound = a.bound; text = said.result; status = 1; refusal = number.ensures z }) ∙ sym (ap (written_answer a.bound said.result) c.in-Err.is), says_as (ap (λ (n : ℕ). filled (decimal n) (item_at causes n) [] [] refused_line) number.ensures ∙ refused_text (words_of a.words.now) a.out.now c.in-Err.why a.encoded c.in-Err.is) said.ensures)

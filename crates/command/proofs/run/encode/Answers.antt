@@ -1,10 +1,10 @@
-use mathlib.Core.Path.{subst}
+use mathlib.Core.Path.{subst, ◌∙◌}
 use lib.ListN.{length}
 use Rattle.leaves.specs.declared.options.EncodeOptions.{EncodeOptions}
 use Rattle.planner.specs.Calls.{called}
 use Rattle.arguments.specs.Words.{words_of}
 use Rattle.command.specs.Runs.{Encodes}
-use Rattle.command.proofs.RunLaws.{is_flag, too_long, writes}
+use Rattle.command.proofs.RunLaws.{bound_told, is_flag, too_long, writes}
 use Rattle.command.proofs.run.encode.Goals as goal
 
 pub returns-then-is_too_long : goal.returns-then-is_too_long
@@ -31,4 +31,4 @@ returns c =
     let encoded = c.encode_into-encoded in
     let said = c.answer in
     subst (λ (o : EncodeOptions). Encodes ws (called a.source o a.plane.now a.palette.now a.icc.now a.linked_icc.now) a.out.now encoded.new.out a.text.now said.new.text said.result) options.ensures
-    (writes bound.ensures flag encoded.ensures c.bound_bytes.ensures said.ensures.0 said.ensures.1)
+    (writes bound.ensures flag encoded.ensures (c.unwrap_or.ensures ∙ bound_told bound.result) said.ensures.0 said.ensures.1)

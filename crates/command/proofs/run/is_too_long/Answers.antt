@@ -4,24 +4,24 @@ use Prim.Native.Nat.{ℕ, ◌*◌}
 use lib.Dec.{ltb}
 use Rattle.leaves.specs.declared.encoder.EncodeSource.{EncodeSource}
 use Rattle.leaves.specs.declared.error.Refusal.{Refusal}
-use Rattle.planner.specs.declared.plan.SizeBound.{SizeBound}
-use Rattle.planner.specs.declared.plan.SizeBound.TheVariants as sized
+use Rattle.std.proofs.Common.{Ok, Err}
+use Rattle.planner.specs.Answers.{BoundAnswer}
 use Rattle.command.specs.Runs.{too_long_of}
 use Rattle.command.proofs.run.is_too_long.Goals as goal
 
-module _ (bound : SizeBound) (source : EncodeSource) (bytes : ℕ) (more : Bool) where
-  passed : (n : ℕ) → bound ≡ sized.Bytes n → (longer r : Bool) → longer ≡ ltb (source.stride * source.height) bytes → r ≡ (longer && not more) → r ≡ too_long_of bound source bytes more
+module _ (bound : BoundAnswer) (source : EncodeSource) (bytes : ℕ) (more : Bool) where
+  passed : (n : ℕ) → bound ≡ Ok n → (longer r : Bool) → longer ≡ ltb (source.stride * source.height) bytes → r ≡ (longer && not more) → r ≡ too_long_of bound source bytes more
   passed n b longer r e f = rw (b, f, e)
 
-  refused : (why : Refusal) → bound ≡ sized.Refused why → false ≡ too_long_of bound source bytes more
+  refused : (why : Refusal) → bound ≡ Err why → false ≡ too_long_of bound source bytes more
   refused why b = rw b
 
-pub returns-in-Bytes : goal.returns-in-Bytes
-returns-in-Bytes c =
+pub returns-in-Ok : goal.returns-in-Ok
+returns-in-Ok c =
     let a = c.args in
-    passed a.bound a.source a.bytes a.more c.in-Bytes.n c.in-Bytes.is c.is_longer.result c.both.result c.is_longer.ensures c.both.ensures
+    passed a.bound a.source a.bytes a.more c.in-Ok.field-0 c.in-Ok.is c.is_longer.result c.both.result c.is_longer.ensures c.both.ensures
 
-pub returns-in-Refused : goal.returns-in-Refused
-returns-in-Refused c =
+pub returns-in-Err : goal.returns-in-Err
+returns-in-Err c =
     let a = c.args in
-    refused a.bound a.source a.bytes a.more c.in-Refused.why c.in-Refused.is
+    refused a.bound a.source a.bytes a.more c.in-Err.field-0 c.in-Err.is

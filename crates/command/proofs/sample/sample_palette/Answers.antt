@@ -19,12 +19,12 @@ whole palette i l e f = sym (take_all i palette (omega arith)) ∙ f ∙ ap (tab
 
 pub loop-i-init : goal.loop-i-init
 unfolding tab
-loop-i-init c = (omega arith, refl, refl)
+loop-i-init c = (refl, refl)
 
 pub loop-i-preserved : goal.loop-i-preserved
 loop-i-preserved c =
     let l = c.loop-i in
-    (omega arith, length-set l.palette l.i c.shade.result ∙ l.invariant.1, turn l.palette l.i c.shade.result (omega arith) l.invariant.2 c.shade.ensures)
+    (length-set l.palette l.i c.shade.result ∙ l.invariant.0, turn l.palette l.i c.shade.result (omega arith) l.invariant.1 c.shade.ensures)
 
 pub returns : goal.returns
-returns c = let l = c.loop-i in (whole l.palette l.i l.invariant.1 (omega arith) l.invariant.2, l.invariant.1)
+returns c = let l = c.loop-i in (whole l.palette l.i l.invariant.0 (omega arith) l.invariant.1, l.invariant.0)

@@ -1,5 +1,4 @@
 use mathlib.Core.Path.{◌≡◌}
-use Prim.Native.Nat.{◌-◌, ◌≤◌}
 use lib.ListN.{length, take}
 use Rattle.leaves.specs.Lists.{tab}
 use Rattle.command.specs.Sample.{shade}
@@ -7,7 +6,4 @@ use Rattle.command.proofs.sample.sample_palette.Given as goal
 
 -- the first i places are shades
 abbrev pub invariant-loop-i : goal.invariant-loop-i
-invariant-loop-i l = (l.i ≤ 1024) × (length l.palette ≡ 1024) × (take l.i l.palette ≡ tab shade l.i)
-
-abbrev pub decreases-loop-i : goal.decreases-loop-i
-decreases-loop-i l = 1024 - l.i
+invariant-loop-i l = (length l.palette ≡ 1024) × (take l.i l.palette ≡ tab shade l.i)

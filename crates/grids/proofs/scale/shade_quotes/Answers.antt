@@ -1,4 +1,5 @@
 use native.Mathlib.Omega.{arith}
+use borrow.Author.Tests.{not-true, not-false}
 use lib.ListN.{length}
 use Rattle.grids.specs.Scale.{not_scale, some_not_quote}
 use Rattle.grids.proofs.Placing.{passes, says_highs, says_plane, says_scale, says_quote, says_painted}
@@ -14,29 +15,22 @@ returns-then-plane-n c =
     let a = c.args in
     says_plane a.edges.now a.lows.now a.highs.now a.plane.now c.if-plane-n.true
 
+pub returns-then-not-is_scale : goal.returns-then-not-is_scale
+returns-then-not-is_scale c =
+    let a = c.args in
+    says_scale a.edges.now a.lows.now a.highs.now a.plane.now (omega arith) (omega arith) c.is_scale.result c.is_scale.ensures (not-true _ c.if-not-is_scale.true-raw)
+
+pub returns-then-not-are_quotes : goal.returns-then-not-are_quotes
+returns-then-not-are_quotes c =
+    let a = c.args in
+    says_quote a.edges.now a.lows.now a.highs.now a.plane.now (omega arith) (omega arith) c.is_scale.result c.is_scale.ensures (not-false _ c.if-not-is_scale.false-raw) c.are_quotes.result c.are_quotes.ensures (not-true _ c.if-not-are_quotes.true-raw)
+
 pub fill-requires : goal.fill-requires
 fill-requires c =
     let a = c.args in
-    let s = c.is_scale-scale in
-    let q = c.are_quotes-quotes in record { lows_in_bounds = omega arith; plane_in_bounds = omega arith; edges_rise = passes s.result (not_scale a.edges.now) s.ensures c.if-scale.true; all_quotes = passes q.result (some_not_quote a.lows.now a.highs.now (length a.lows.now)) q.ensures c.if-quotes.true }
-
-pub returns-then-quotes : goal.returns-then-quotes
-returns-then-quotes c =
-    let a = c.args in
-    let s = c.is_scale-scale in
-    let q = c.are_quotes-quotes in
-    let f = c.fill in
-    says_painted a.edges.now a.lows.now a.highs.now a.plane.now (omega arith) (omega arith) s.result s.ensures c.if-scale.true q.result q.ensures f.new.plane c.if-quotes.true f.ensures
-
-pub returns-then-scale : goal.returns-then-scale
-returns-then-scale c =
-    let a = c.args in
-    let s = c.is_scale-scale in
-    let q = c.are_quotes-quotes in
-    says_quote a.edges.now a.lows.now a.highs.now a.plane.now (omega arith) (omega arith) s.result s.ensures c.if-scale.true q.result q.ensures c.if-quotes.false
+    record { lows_in_bounds = omega arith; plane_in_bounds = omega arith; edges_rise = passes c.is_scale.result (not_scale a.edges.now) c.is_scale.ensures (not-false _ c.if-not-is_scale.false-raw); all_quotes = passes c.are_quotes.result (some_not_quote a.lows.now a.highs.now (length a.lows.now)) c.are_quotes.ensures (not-false _ c.if-not-are_quotes.false-raw) }
 
 pub returns : goal.returns
 returns c =
     let a = c.args in
-    let s = c.is_scale-scale in
-    says_scale a.edges.now a.lows.now a.highs.now a.plane.now (omega arith) (omega arith) s.result s.ensures c.if-scale.false
+    says_painted a.edges.now a.lows.now a.highs.now a.plane.now (omega arith) (omega arith) c.is_scale.result c.is_scale.ensures (not-false _ c.if-not-is_scale.false-raw) c.are_quotes.result c.are_quotes.ensures c.fill.new.plane (not-false _ c.if-not-are_quotes.false-raw) c.fill.ensures

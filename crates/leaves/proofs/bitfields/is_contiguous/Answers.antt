@@ -1,6 +1,4 @@
-use Rattle.std.proofs.Common.{ℕ, ◌/◌, ◌^◌, eqb, sym, ap, ◌∙◌, arith}
-use lib.Bits.{bit_and}
-use lib.Count.{count_trailing_zeros}
+use Rattle.std.proofs.Common.{sym, arith}
 use Rattle.leaves.proofs.Runs.{is_one_run_lem, contiguous, ends_within}
 use Rattle.leaves.proofs.bitfields.is_contiguous.Goals as goal
 
@@ -11,6 +9,4 @@ pub overflow_shr-normalised : goal.overflow_shr-normalised
 overflow_shr-normalised c = omega (arith, ends_within c.args.mask (omega (arith, c.if-mask-eq0.false)) c.ranges.mask.fits)
 
 pub returns : goal.returns
-returns c =
-    let m = c.args.mask in
-    ap (λ (z : ℕ). eqb (bit_and (m / 2 ^ count_trailing_zeros 32 m) z) 0) c.wrapping_add_u32.ensures.value ∙ contiguous m c.ranges.mask.fits
+returns c = contiguous c.args.mask c.ranges.mask.fits

@@ -1,12 +1,8 @@
-use Rattle.std.proofs.Common.{◌≡◌, ◌-◌, ◌≤◌, ◌⊎◌}
-use Rattle.leaves.specs.declared.error.Check.TheVariants.{Passed}
+use Rattle.std.proofs.Common.{◌≡◌, ◌⊎◌, Ok}
 use Rattle.leaves.specs.Masks.{union_of, mask_rows}
 use Rattle.leaves.specs.Lists.{cat}
 use Rattle.leaves.specs.Refusals.{first_of}
 use Rattle.leaves.proofs.bitfields.validate.Given as goal
 
 abbrev pub invariant-loop-k : goal.invariant-loop-k
-invariant-loop-k l = ((l.bpp ≡ 16) ⊎ (l.bpp ≡ 32)) × (l.k ≤ 4) × (l.union ≡ union_of l.masks l.k) × (first_of (cat (mask_rows l.bpp l.masks) l.k) ≡ Passed)
-
-abbrev pub decreases-loop-k : goal.decreases-loop-k
-decreases-loop-k l = 4 - l.k
+invariant-loop-k l = ((l.bpp ≡ 16) ⊎ (l.bpp ≡ 32)) × (l.union ≡ union_of l.masks l.k) × (first_of (cat (mask_rows l.bpp l.masks) l.k) ≡ Ok tt)

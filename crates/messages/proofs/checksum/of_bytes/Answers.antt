@@ -1,5 +1,5 @@
 use mathlib.Core.List.{List}
-use mathlib.Core.Path.{refl, ◌∙◌, ◌≡◌}
+use mathlib.Core.Path.{◌∙◌, ◌≡◌}
 use Prim.Native.Nat.{ℕ, ◌+◌, ◌≤◌, ◌<◌}
 use native.Mathlib.Omega.{arith}
 use lib.ListN.{drop_of_length-le, length, get_or, drop}
@@ -15,13 +15,10 @@ done : (bytes : List ℕ) (sum i : ℕ) → length bytes ≤ i → sum ≡ crc_o
 unfolding crc_of
 done bytes sum i h = rw (drop_of_length-le bytes h)
 
-pub loop-i-init : goal.loop-i-init
-loop-i-init c = (omega arith, refl)
-
-pub loop-i-preserved : goal.loop-i-preserved
-loop-i-preserved c =
-    let l = c.loop-i in
-    (omega arith, more c.args.bytes.now l.sum l.i c.with_byte-sum.result (omega arith) c.with_byte-sum.ensures ∙ l.invariant.1)
+pub loop-byte-preserved : goal.loop-byte-preserved
+loop-byte-preserved c =
+    let l = c.loop-byte in
+    more c.args.bytes.now l.sum l.byte-index c.with_byte-sum.result (omega arith) c.with_byte-sum.ensures ∙ l.invariant
 
 pub returns : goal.returns
-returns c = done c.args.bytes.now c.loop-i.sum c.loop-i.i c.loop-i-test.false ∙ c.loop-i.invariant.1
+returns c = done c.args.bytes.now c.loop-byte.sum c.loop-byte.byte-index c.loop-byte-test.false ∙ c.loop-byte.invariant

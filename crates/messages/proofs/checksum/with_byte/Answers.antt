@@ -29,18 +29,18 @@ done sum byte i r b h k e =
     let fits : byte * 2 ^ 24 % 2 ^ 32 ≡ byte * 2 ^ 24 = omega arith in
     rw (le_antisymm h k, fits) at e
 
-pub loop-i-init : goal.loop-i-init
+pub loop-bit-init : goal.loop-bit-init
 unfolding crc_bits
-loop-i-init c = (omega arith, refl)
+loop-bit-init c = refl
 
-pub loop-i-preserved : goal.loop-i-preserved
-loop-i-preserved c =
-    let l = c.loop-i in
+pub loop-bit-preserved : goal.loop-bit-preserved
+loop-bit-preserved c =
+    let l = c.loop-bit in
     let start = bit_xor c.args.sum (c.args.byte * 2 ^ 24 % 2 ^ 32) in
-    (omega arith, elim (c.if-r-lt2147483648.branch) [ then-r-lt2147483648 w ↦ low l.i start l.r l.invariant.1 c.if-r-lt2147483648.r w.if-r-lt2147483648.true w.r-is | else-r-lt2147483648 w ↦ high l.i start l.r l.invariant.1 c.if-r-lt2147483648.r w.if-r-lt2147483648.false w.r-is ])
+    elim (c.if-r-lt2147483648.branch) [ then-r-lt2147483648 w ↦ low l._bit start l.r l.invariant c.if-r-lt2147483648.r w.if-r-lt2147483648.true w.r-is | else-r-lt2147483648 w ↦ high l._bit start l.r l.invariant c.if-r-lt2147483648.r w.if-r-lt2147483648.false w.r-is ]
 
 pub returns : goal.returns
 returns c =
     let a = c.args in
-    let l = c.loop-i in
-    done a.sum a.byte l.i l.r c.ranges.byte.fits l.invariant.0 c.loop-i-test.false l.invariant.1
+    let l = c.loop-bit in
+    done a.sum a.byte l._bit l.r c.ranges.byte.fits (omega arith) c.loop-bit-test.false l.invariant

@@ -1,31 +1,34 @@
-use mathlib.Core.Path.{refl, ◌∙◌}
-use Prim.Native.Nat.{◌+◌}
 use native.Mathlib.Omega.{arith}
-use lib.ListN.{get_or}
-use Rattle.messages.proofs.MessageLaws.{says_as, first_mark, second_mark, third_mark, fourth_mark, no_mark, one_byte}
+use Rattle.messages.specs.Messages.{piece_at}
+use Rattle.messages.proofs.MessageLaws.{says_as, first_mark, second_mark, third_mark, fourth_mark, no_mark}
 use Rattle.messages.proofs.message.say_mark.Goals as goal
 
-pub returns-then-mark-eq64 : goal.returns-then-mark-eq64
-returns-then-mark-eq64 c =
+pub returns-in-64 : goal.returns-in-64
+returns-in-64 c =
     let a = c.args in
-    says_as (first_mark a.a.now a.b.now a.c.now a.d.now (get_or a.line.now a.i 0) c.if-mark-eq64.true) c.say.ensures
+    let piece = piece_at a.pieces.now in
+    says_as (first_mark (piece 0) (piece 1) (piece 2) (piece 3) a.mark c.in-64.is) c.say_piece.ensures
 
-pub returns-then-mark-eq35 : goal.returns-then-mark-eq35
-returns-then-mark-eq35 c =
+pub returns-in-35 : goal.returns-in-35
+returns-in-35 c =
     let a = c.args in
-    says_as (second_mark a.a.now a.b.now a.c.now a.d.now (get_or a.line.now a.i 0) c.if-mark-eq64.false c.if-mark-eq35.true) c.say-then-mark-eq35.ensures
+    let piece = piece_at a.pieces.now in
+    says_as (second_mark (piece 0) (piece 1) (piece 2) (piece 3) a.mark (λ e. omega arith) c.in-35.is) c.say_piece-in-35.ensures
 
-pub returns-then-mark-eq37 : goal.returns-then-mark-eq37
-returns-then-mark-eq37 c =
+pub returns-in-37 : goal.returns-in-37
+returns-in-37 c =
     let a = c.args in
-    says_as (third_mark a.a.now a.b.now a.c.now a.d.now (get_or a.line.now a.i 0) c.if-mark-eq64.false c.if-mark-eq35.false c.if-mark-eq37.true) c.say-then-mark-eq37.ensures
+    let piece = piece_at a.pieces.now in
+    says_as (third_mark (piece 0) (piece 1) (piece 2) (piece 3) a.mark (λ e. omega arith) (λ e. omega arith) c.in-37.is) c.say_piece-in-37.ensures
 
-pub returns-then-mark-eq38 : goal.returns-then-mark-eq38
-returns-then-mark-eq38 c =
+pub returns-in-38 : goal.returns-in-38
+returns-in-38 c =
     let a = c.args in
-    says_as (fourth_mark a.a.now a.b.now a.c.now a.d.now (get_or a.line.now a.i 0) c.if-mark-eq64.false c.if-mark-eq35.false c.if-mark-eq37.false c.if-mark-eq38.true) c.say-then-mark-eq38.ensures
+    let piece = piece_at a.pieces.now in
+    says_as (fourth_mark (piece 0) (piece 1) (piece 2) (piece 3) a.mark (λ e. omega arith) (λ e. omega arith) (λ e. omega arith) c.in-38.is) c.say_piece-in-38.ensures
 
-pub returns : goal.returns
-returns c =
+pub returns-in_default : goal.returns-in_default
+returns-in_default c =
     let a = c.args in
-    says_as (one_byte a.line.now a.i (a.i + 1) (omega arith) refl ∙ no_mark a.a.now a.b.now a.c.now a.d.now (get_or a.line.now a.i 0) c.if-mark-eq64.false c.if-mark-eq35.false c.if-mark-eq37.false c.if-mark-eq38.false) c.say-2.ensures
+    let piece = piece_at a.pieces.now in
+    says_as (no_mark (piece 0) (piece 1) (piece 2) (piece 3) a.mark (λ e. omega arith) (λ e. omega arith) (λ e. omega arith) (λ e. omega arith)) c.say.ensures

@@ -1,11 +1,8 @@
-use mathlib.Core.Path.{◌≡◌}
-use Prim.Native.Nat.{◌-◌, ◌≤◌}
+use Prim.Native.Nat.{◌≤◌}
 use lib.ListN.{length, take}
-use Rattle.messages.specs.Messages.{filled, Says}
+use Rattle.messages.specs.Messages.{piece_at, filled, Says}
 use Rattle.messages.proofs.message.tell.Given as goal
 
-abbrev pub invariant-loop-i : goal.invariant-loop-i
-invariant-loop-i l = (l.i ≤ length l.line) × (l.at ≤ length l.text) × (length l.text ≡ length l.initial.text) × Says l.initial.text 0 (filled l.a l.b l.c l.d (take l.i l.line)) l.text l.at
-
-abbrev pub decreases-loop-i : goal.decreases-loop-i
-decreases-loop-i l = length l.line - l.i
+abbrev pub invariant-loop-mark : goal.invariant-loop-mark
+invariant-loop-mark l =
+    (l.at ≤ length l.text) × Says l.initial.text 0 (filled (piece_at l.pieces 0) (piece_at l.pieces 1) (piece_at l.pieces 2) (piece_at l.pieces 3) (take l.mark-index l.line)) l.text l.at

@@ -4,5 +4,5 @@ use Rattle.planner.proofs.encoder.too_short.Goals as goal
 pub returns-then-room-offset : goal.returns-then-room-offset
 returns-then-room-offset c = rw (lt-ltb c.args.room c.args.offset c.if-room-offset.true)
 
-pub returns : goal.returns
-returns c = rw (le-ltb c.args.room c.args.offset c.if-room-offset.false)
+pub returns-else-room-offset : goal.returns-else-room-offset
+returns-else-room-offset c = rw (le-ltb c.args.room c.args.offset c.if-room-offset.false)

@@ -1,4 +1,8 @@
-use mathlib.Core.Path.{◌∙◌, refl}
+use mathlib.Core.Path.{◌≡◌, ◌∙◌, refl}
+use lib.ListN.{length}
+use Rattle.std.proofs.Common.{Option, Some, None}
+use Rattle.leaves.specs.declared.options.CalibratedRgb.{CalibratedRgb}
+use Rattle.leaves.specs.Options.{calibrated_in}
 use Prim.Native.Nat.{◌+◌, ◌-◌, ◌*◌}
 use native.Mathlib.Omega.{arith}
 use Rattle.leaves.specs.Put.{put}
@@ -9,7 +13,16 @@ use Rattle.format.specs.Layout.{head_rest}
 use Rattle.planner.specs.Plans.{first_fields, head_by}
 use Rattle.planner.proofs.HeadWrites.{rest_room, head_written}
 use Rattle.planner.proofs.Longs.{long_of}
+use Rattle.planner.proofs.encoder.write_head.Goals.{Start}
 use Rattle.planner.proofs.encoder.write_head.Goals as goal
+
+-- calibrated colour has nine endpoints and three gammas, given or not
+counts : (c : Start) → (length (calibrated_in c.args.options).endpoints ≡ 9) × (length (calibrated_in c.args.options).gamma ≡ 3)
+counts c = go c.args.options.calibrated_rgb refl
+  where
+    go : (o : Option CalibratedRgb) → c.args.options.calibrated_rgb ≡ o → (length (calibrated_in c.args.options).endpoints ≡ 9) × (length (calibrated_in c.args.options).gamma ≡ 3)
+    go None q = (rw q, rw q)
+    go (Some x) q = let k = (rw q at c.well_formed.1.1.0.1.1.1.1.1.1.1.1.0).1.1.1.1.0.1.1 in (rw q k.0.1.0.1, rw q k.1.0.1.0.1)
 
 pub overflow_add-at : goal.overflow_add-at
 overflow_add-at c = record { fits = omega (arith, c.requires.head_length, c.requires.head_in_bounds, c.well_formed.1.1.1.1.1.1.1.1.1.1.0) }
@@ -17,11 +30,9 @@ overflow_add-at c = record { fits = omega (arith, c.requires.head_length, c.requ
 pub write_rest-requires : goal.write_rest-requires
 write_rest-requires c =
     let a = c.args in
-    let g = c.well_formed.1.1.0.1.1.1.1.1.1.1.1.1.1.0.1.1 in
-    let nine = g.0.1.0.1 in
-    let three = g.1.0.1.0.1 in
-    let rest = rest_room a.layout.mode a.src a.options nine three in
-    omega (arith, rest, c.requires.head_length, c.requires.head_in_bounds, c.write_first_fields.auto.buf)
+    let n = counts (goal.at.write_rest-requires c).Start in
+    let rest = rest_room a.layout.mode a.src a.options n.0 n.1 in
+    record { mode_chosen = c.requires.mode_chosen; in_bounds = omega (arith, rest, c.requires.head_length, c.requires.head_in_bounds, c.write_first_fields.auto.buf) }
 
 pub overflow_add-at-2 : goal.overflow_add-at-2
 overflow_add-at-2 c = record { fits = omega (arith, c.requires.head_in_bounds, c.well_formed.1.1.1.1.1.1.1.1.1.1.0) }
@@ -38,8 +49,8 @@ pub returns : goal.returns
 unfolding head_by
 returns c =
     let a = c.args in
-    let x = long_of a.options.x_pels_per_meter c.long_bits.result c.struct_told-1.given.1.1.1.1.1.1.1.1.1.1.0.1 c.long_bits.ensures in
-    let y = long_of a.options.y_pels_per_meter c.long_bits-2.result c.struct_told-2-1.given.1.1.1.1.1.1.1.1.1.1.1.0.1 c.long_bits-2.ensures in
+    let x = long_of a.options.x_pels_per_meter c.long_bits.result c.struct_told-1.given.1.1.1.1.1.1.1.1.0.1 c.long_bits.ensures in
+    let y = long_of a.options.y_pels_per_meter c.long_bits-2.result c.struct_told-2-1.given.1.1.1.1.1.1.1.1.1.0.1 c.long_bits-2.ensures in
     let w1 = c.write_first_fields in
     let w2 = c.write_rest in
     let w3 = c.write_color_table in

@@ -6,7 +6,4 @@ use Rattle.format.specs.Headers.{dwords}
 use Rattle.planner.proofs.heads.put_dwords.Given as goal
 
 abbrev pub invariant-loop-i : goal.invariant-loop-i
-invariant-loop-i l = (l.i ≤ l.n) × (length l.buf ≡ length l.initial.buf) × (l.buf ≡ put l.initial.buf l.at (dwords (take l.i l.src)))
-
-abbrev pub decreases-loop-i : goal.decreases-loop-i
-decreases-loop-i l = l.n - l.i
+invariant-loop-i l = (length l.buf ≡ length l.initial.buf) × (l.buf ≡ put l.initial.buf l.at (dwords (take l.i l.src)))

@@ -11,23 +11,22 @@ use Rattle.planner.proofs.heads.put_longs.Goals as goal
 
 pub loop-i-init : goal.loop-i-init
 unfolding dwords
-loop-i-init c = (omega arith, refl, sym (put-nil c.args.buf.now c.args.at))
+loop-i-init c = (refl, sym (put-nil c.args.buf.now c.args.at))
 
 pub loop-i-preserved : goal.loop-i-preserved
 loop-i-preserved c =
     let l = c.loop-i in
     let a = c.args in
-    let p = c.put_u32 in
-    let v = c.long_bits-bits in (
+    let p = c.put_number in
+    let v = c.long_bits in (
       omega arith,
-      omega arith,
-      next_long a.src.now v.result a.buf.now l.buf p.new.buf a.at l.i (a.at + 4 * l.i) (omega arith) (omega arith) refl l.invariant.2 (long_of (get_or a.src.now l.i (pos 0)) v.result c.long_bits-arg-1.given v.ensures) p.ensures,
+      next_long a.src.now v.result a.buf.now l.buf p.new.buf a.at l.i (a.at + 4 * l.i) (omega arith) (omega arith) refl l.invariant.1 (long_of (get_or a.src.now l.i (pos 0)) v.result c.long_bits-arg-1.given v.ensures) p.ensures,
     )
 
 pub shape_of-buf : goal.shape_of-buf
-shape_of-buf c = c.loop-i.invariant.1
+shape_of-buf c = c.loop-i.invariant.0
 
 pub returns : goal.returns
 returns c =
     let a = c.args in
-    all_longs a.src.now a.buf.now c.loop-i.buf a.at c.loop-i.i (omega arith) c.loop-i.invariant.2
+    all_longs a.src.now a.buf.now c.loop-i.buf a.at c.loop-i.i (omega arith) c.loop-i.invariant.1

@@ -7,7 +7,4 @@ use Rattle.format.specs.File.{table_entry}
 use Rattle.planner.proofs.heads.write_color_table.Given as goal
 
 abbrev pub invariant-loop-k : goal.invariant-loop-k
-invariant-loop-k l = (l.k ≤ l.entries) × (length l.buf ≡ length l.initial.buf) × (l.buf ≡ put l.initial.buf l.at (cat (table_entry l.palette) l.k))
-
-abbrev pub decreases-loop-k : goal.decreases-loop-k
-decreases-loop-k l = l.entries - l.k
+invariant-loop-k l = (length l.buf ≡ length l.initial.buf) × (l.buf ≡ put l.initial.buf l.at (cat (table_entry l.palette) l.k))

@@ -1,44 +1,69 @@
-use mathlib.Core.Path.{refl, ap, ◌∙◌}
-use mathlib.Core.Bool.{Bool}
-use mathlib.Core.List.{◌++◌}
+use mathlib.Core.Path.{◌≡◌, refl, ◌∙◌}
 use Prim.Native.Nat.{ℕ}
+use Rattle.std.proofs.Common.{is_some}
+use Rattle.std.proofs.lemmas.Result.{err_from_is_err_and}
+use Rattle.leaves.specs.declared.encoder.EncodeSource.{EncodeSource}
+use Rattle.leaves.specs.declared.options.EncodeOptions.{EncodeOptions}
 use Rattle.leaves.specs.Formats.{is_indexed, bytes_per_pixel}
-use Rattle.leaves.specs.Refusals.{first_of, profile_mode, dimension_rows, settings_rows, palette_rows, mode_rows, plane_rows}
+use Rattle.leaves.specs.Refusals.{first_of, or_else, profile_mode, dimension_rows, settings_rows, palette_rows, mode_rows, plane_rows}
 use Rattle.format.specs.Refusals.{given_masks_rows, check_rows}
-use Rattle.leaves.proofs.FirstOf.{first_next}
+use Rattle.leaves.proofs.FirstOf.{first-or}
 use Rattle.leaves.proofs.Signs.{read_back}
+use Rattle.planner.proofs.plan.checks.Goals.{After-check_settings}
 use Rattle.planner.proofs.plan.checks.Goals as goal
 
-pub returns : goal.returns
-unfolding check_rows
-returns c =
-    let s = c.args.src in
+-- the groups of rows in turn
+module _ (s : EncodeSource) (o : EncodeOptions) (m n : ℕ) where
+  in_turn : first_of (check_rows s o m n)
+      ≡ or_else (or_else (or_else (or_else (or_else
+      (first_of (dimension_rows s.width s.height))
+      (first_of (settings_rows o.limit o.x_pels_per_meter o.y_pels_per_meter)))
+      (first_of (palette_rows (is_indexed s.format) s.has_palette n)))
+      (first_of (mode_rows (is_some o.bitfields) (is_some o.calibrated_rgb) (profile_mode s.has_linked_icc s.has_icc o.embed_icc))))
+      (first_of (given_masks_rows s o)))
+      (first_of (plane_rows s.width s.height s.stride (bytes_per_pixel s.format) m))
+  unfolding check_rows
+  in_turn = simp first-or
+
+-- the settings that are looked at are the call's
+settings_asked : (c : After-check_settings) → c.check_settings.result ≡ first_of (settings_rows c.args.options.limit c.args.options.x_pels_per_meter c.args.options.y_pels_per_meter)
+settings_asked c =
     let o = c.args.options in
-    let n = c.args.palette_bytes in
-    let m = c.args.plane_bytes in
-    let settings = c.check_settings-settings in
-    let x = read_back o.x_pels_per_meter o.x_pels_per_meter c.struct_told-1.given.1.1.1.1.1.1.1.1.1.1.0.1 refl in
-    let y = read_back o.y_pels_per_meter o.y_pels_per_meter c.struct_told-2-1.given.1.1.1.1.1.1.1.1.1.1.1.0.1 refl in
-    let indexed = c.is_indexed in
-    let mode = c.check_modes-modes in
-    let mask = c.check_masks-masks in
-    let plane = c.check_plane-plane in
-    let dimensions = dimension_rows s.width s.height in
-    let setting = settings_rows o.limit o.x_pels_per_meter o.y_pels_per_meter in
-    let palettes = palette_rows (is_indexed s.format) s.has_palette n in
-    let modes = mode_rows o.has_bitfields o.has_calibrated_rgb (profile_mode s.has_linked_icc s.has_icc o.embed_icc) in
-    let masks = given_masks_rows s o in
-    let planes = plane_rows s.width s.height s.stride (bytes_per_pixel s.format) m in
-    let one = c.or in
-    let two = c.or-2 in
-    let three = c.or-3 in
-    let four = c.or-4 in
-    let set = first_next dimensions setting c.check_dimensions-dimensions.result settings.result one.result c.check_dimensions-dimensions.ensures
-    (settings.ensures ∙ (λ z. first_of (settings_rows o.limit (x z) (y z)))) one.ensures in
-    let table = first_next (dimensions ++ setting) palettes one.result c.check_palette-palette.result two.result set
-    (c.check_palette-palette.ensures ∙ ap (λ (x : Bool). first_of (palette_rows x s.has_palette n)) indexed.ensures) two.ensures in
-    let moded = first_next (dimensions ++ setting ++ palettes) modes two.result mode.result three.result table
-    (mode.ensures ∙ ap (λ (x : Bool). first_of (mode_rows o.has_bitfields o.has_calibrated_rgb x)) c.profile_mode-profile.ensures) three.ensures in
-    let masked = first_next (dimensions ++ setting ++ palettes ++ modes) masks three.result mask.result four.result moded mask.ensures four.ensures in
-    first_next (dimensions ++ setting ++ palettes ++ modes ++ masks) planes four.result plane.result c.or-5.result masked
-    (plane.ensures ∙ ap (λ (x : ℕ). first_of (plane_rows s.width s.height s.stride x m)) c.bytes_per_pixel-pixel.ensures) c.or-5.ensures
+    let x = read_back o.x_pels_per_meter o.x_pels_per_meter c.struct_told-1.given.1.1.1.1.1.1.1.1.0.1 refl in
+    let y = read_back o.y_pels_per_meter o.y_pels_per_meter c.struct_told-2-1.given.1.1.1.1.1.1.1.1.1.0.1 refl in
+    c.check_settings.ensures ∙ (λ z. first_of (settings_rows o.limit (x z) (y z)))
+
+pub returns-in_err-check_dimensions : goal.returns-in_err-check_dimensions
+returns-in_err-check_dimensions c =
+    let a = c.args in
+    let p = err_from_is_err_and c.from_residual.result c.from_residual.ensures.1 in
+    rw (in_turn a.src a.options a.plane_bytes a.palette_bytes, ← c.in_err-check_dimensions.ensures, p.1, p.2)
+
+pub returns-in_err-check_settings : goal.returns-in_err-check_settings
+returns-in_err-check_settings c =
+    let a = c.args in
+    let p = err_from_is_err_and c.from_residual-in_err-check_settings.result c.from_residual-in_err-check_settings.ensures.1 in
+    rw (in_turn a.src a.options a.plane_bytes a.palette_bytes, ← c.in_ok-check_dimensions.ensures, ← settings_asked (goal.at.returns-in_err-check_settings c).After-check_settings, c.in_err-check_settings.was, p.1, p.2)
+
+pub returns-in_err-check_palette : goal.returns-in_err-check_palette
+returns-in_err-check_palette c =
+    let a = c.args in
+    let p = err_from_is_err_and c.from_residual-in_err-check_palette.result c.from_residual-in_err-check_palette.ensures.1 in
+    rw (in_turn a.src a.options a.plane_bytes a.palette_bytes, ← c.in_ok-check_dimensions.ensures, ← settings_asked (goal.at.returns-in_err-check_palette c).After-check_settings, c.in_ok-check_settings.was, ← c.is_indexed.ensures, ← c.in_err-check_palette.ensures, p.1, p.2)
+
+pub returns-in_err-check_modes : goal.returns-in_err-check_modes
+returns-in_err-check_modes c =
+    let a = c.args in
+    let p = err_from_is_err_and c.from_residual-in_err-check_modes.result c.from_residual-in_err-check_modes.ensures.1 in
+    rw (in_turn a.src a.options a.plane_bytes a.palette_bytes, ← c.in_ok-check_dimensions.ensures, ← settings_asked (goal.at.returns-in_err-check_modes c).After-check_settings, c.in_ok-check_settings.was, ← c.is_indexed.ensures, ← c.in_ok-check_palette.ensures, ← c.is_some.ensures, ← c.is_some-2.ensures, ← c.profile_mode-profile.ensures, ← c.in_err-check_modes.ensures, p.1, p.2)
+
+pub returns-in_err-check_masks : goal.returns-in_err-check_masks
+returns-in_err-check_masks c =
+    let a = c.args in
+    let p = err_from_is_err_and c.from_residual-in_err-check_masks.result c.from_residual-in_err-check_masks.ensures.1 in
+    rw (in_turn a.src a.options a.plane_bytes a.palette_bytes, ← c.in_ok-check_dimensions.ensures, ← settings_asked (goal.at.returns-in_err-check_masks c).After-check_settings, c.in_ok-check_settings.was, ← c.is_indexed.ensures, ← c.in_ok-check_palette.ensures, ← c.is_some.ensures, ← c.is_some-2.ensures, ← c.profile_mode-profile.ensures, ← c.in_ok-check_modes.ensures, ← c.in_err-check_masks.ensures, p.1, p.2)
+
+pub returns : goal.returns
+returns c =
+    let a = c.args in
+    rw (in_turn a.src a.options a.plane_bytes a.palette_bytes, ← c.in_ok-check_dimensions.ensures, ← settings_asked (goal.at.returns c).After-check_settings, c.in_ok-check_settings.was, ← c.is_indexed.ensures, ← c.in_ok-check_palette.ensures, ← c.is_some.ensures, ← c.is_some-2.ensures, ← c.profile_mode-profile.ensures, ← c.in_ok-check_modes.ensures, ← c.in_ok-check_masks.ensures, ← c.bytes_per_pixel.ensures, c.check_plane.ensures)

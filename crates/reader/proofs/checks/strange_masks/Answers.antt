@@ -7,6 +7,7 @@ use mathlib.Core.List.{List}
 use mathlib.Core.Path.{ap}
 use borrow.Author.Tests.{not-true, not-false}
 use mathlib.Core.Path.{sym, ◌∙◌}
+use Rattle.leaves.proofs.FirstOf.{refuses}
 use Rattle.reader.proofs.Heads.{no_masks, masks_cut, masks_checked}
 use Rattle.reader.proofs.checks.strange_masks.Goals as goal
 
@@ -18,4 +19,4 @@ returns-then-file-masks_end c = masks_cut c.args.file.now c.args.t.compression c
 
 pub returns : goal.returns
 unfolding masks_of
-returns c = masks_checked c.args.file.now (fields_in c.args.t) _ c.requires (sym c.has_masks.ensures ∙ not-false _ c.if-not-has_masks.false-raw) (rw (← c.masks_end.ensures) c.if-file-masks_end.false) (c.number.ensures ∙ c.validate-check.ensures ∙ ap (λ (m : List ℕ). first_number (bitfields_rows c.args.t.depth m)) (rw (c.dword_at-red.ensures, c.dword_at-green.ensures, c.dword_at-blue.ensures, c.alpha_mask-alpha.ensures)))
+returns c = c.is_err.ensures.value ∙ refuses c.validate.result ∙ masks_checked c.args.file.now (fields_in c.args.t) _ c.requires (sym c.has_masks.ensures ∙ not-false _ c.if-not-has_masks.false-raw) (rw (← c.masks_end.ensures) c.if-file-masks_end.false) (c.validate.ensures ∙ ap (λ (m : List ℕ). first_number (bitfields_rows c.args.t.depth m)) (rw (c.dword_at-red.ensures, c.dword_at-green.ensures, c.dword_at-blue.ensures, c.alpha_mask-alpha.ensures)))

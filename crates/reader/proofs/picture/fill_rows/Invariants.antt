@@ -2,12 +2,7 @@ use Rattle.leaves.specs.Lists.{cat}
 use Rattle.cells.proofs.Loops.{SoFar}
 use Rattle.reader.proofs.PlainRows.{row_at}
 use Rattle.reader.specs.Fields.{fields_in}
-use Prim.Native.Nat.{◌-◌, ◌*◌, ◌≤◌}
-use mathlib.Core.Path.{◌≡◌}
 use Rattle.reader.proofs.picture.fill_rows.Given as goal
 
 abbrev pub invariant-loop-y : goal.invariant-loop-y
-invariant-loop-y l = (l.y ≤ l.height) × (l.to ≡ l.y * l.numbers) × SoFar l.initial.cells 0 (cat (row_at l.file (fields_in l.t)) l.y) l.cells
-
-abbrev pub decreases-loop-y : goal.decreases-loop-y
-decreases-loop-y l = l.height - l.y
+invariant-loop-y l = SoFar l.initial.cells 0 (cat (row_at l.file (fields_in l.t)) l.y) l.cells

@@ -1,5 +1,8 @@
-use Rattle.reader.proofs.OneRow.{row_refused}
+use Rattle.std.proofs.Common.{rules}
+use Rattle.reader.proofs.OneRow.{row_stopped}
 use Rattle.reader.proofs.row.read_row.Goals as goal
 
-pub returns-then-refusal-ne0 : goal.returns-then-refusal-ne0
-returns-then-refusal-ne0 c = let a = c.args in row_refused a.file.now a.start a.cells.now _ c.row_number-refusal.ensures c.if-refusal-ne0.true
+pub returns-in_err-check_row : goal.returns-in_err-check_row
+returns-in_err-check_row c =
+    let a = c.args in
+    row_stopped a.file.now a.start a.cells.now c.in_err-check_row.field-0.0 c.from_residual.result (search rules) c.in_err-check_row.ensures

@@ -1,6 +1,6 @@
-use Rattle.std.proofs.Common.{◌≡◌, ℕ, ◌-◌, ◌^◌, ◌<◌, Bool, List, get_or, sym, ◌∙◌, arith}
+use Rattle.std.proofs.Common.{◌≡◌, ℕ, ◌-◌, ◌^◌, ◌<◌, Bool, List, get_or, sym, ◌∙◌}
 use lib.Bits.{bit_and, and_mask, mask_lt}
-use Rattle.rows.specs.RleCodes.{depth_of, cells}
+use Rattle.rows.specs.RleCodes.{is_rle4, depth_of, cells}
 use Rattle.rows.proofs.Scans.{cell_at}
 use Rattle.rows.proofs.blocks.cell.Goals as goal
 
@@ -9,10 +9,7 @@ cut four row k m e =
     let d = depth_of four in
     rw e (and_mask (get_or row k 0) d ∙ sym (cell_at d row k), mask_lt (get_or row k 0) d)
 
-pub overflow_cast-result : goal.overflow_cast-result
-overflow_cast-result c = omega (arith, c.shared_slice_known-1.given c.args.k)
-
 pub returns : goal.returns
 returns c =
     let a = c.args in
-    cut a.four a.row.now a.k _ c.cell_mask.ensures
+    cut (is_rle4 a.rle) a.row.now a.k _ c.mask.ensures

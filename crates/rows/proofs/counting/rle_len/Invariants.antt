@@ -1,11 +1,8 @@
-use Rattle.std.proofs.Common.{◌≡◌, ◌-◌, ◌≤◌, length}
-use Rattle.rows.specs.RleCodes.{depth_of}
+use Rattle.std.proofs.Common.{◌≡◌, length}
+use Rattle.rows.specs.RleCodes.{is_rle4, depth_of}
 use Rattle.leaves.specs.Lists.{cat}
 use Rattle.rows.specs.Stream.{stream_row}
 use Rattle.rows.proofs.counting.rle_len.Given as goal
 
 abbrev pub invariant-loop-y : goal.invariant-loop-y
-invariant-loop-y l = (l.y ≤ l.h) × (l.len ≡ length (cat (stream_row (depth_of l.four) l.w l.h l.plane l.stride) l.y))
-
-abbrev pub decreases-loop-y : goal.decreases-loop-y
-decreases-loop-y l = l.h - l.y
+invariant-loop-y l = l.len ≡ length (cat (stream_row (depth_of (is_rle4 l.rle)) l.width l.height l.plane l.stride) l.y)

@@ -1,17 +1,8 @@
-use Rattle.std.proofs.Common.{◌+◌, ◌*◌, get_or, ap, ◌∙◌, arith, length-set}
+use Rattle.std.proofs.Common.{◌+◌, ◌*◌, get_or, ap, ◌∙◌, arith}
 use Rattle.leaves.specs.Put.{put}
 use Rattle.rows.proofs.PackLaws.{stores3}
 use Rattle.rows.proofs.Cells.{exchanged-cell24}
 use Rattle.rows.proofs.exchange.exchange_cell.Goals as goal
-
-pub bounds-dst-at-2 : goal.bounds-dst-at-2
-bounds-dst-at-2 c = simp length-set (omega arith)
-
-pub bounds-dst-at-3 : goal.bounds-dst-at-3
-bounds-dst-at-3 c = simp length-set (omega arith)
-
-pub shape_of-dst : goal.shape_of-dst
-shape_of-dst c = simp length-set (omega arith)
 
 pub returns : goal.returns
 returns c =

@@ -1,4 +1,6 @@
-use Rattle.std.proofs.Common.{◌+◌, false, refl, arith}
+use Rattle.std.proofs.Common.{◌≡◌, ℕ, ◌+◌, ◌*◌, ◌/◌, false, ap, ◌∙◌, arith}
+use Rattle.leaves.specs.Lists.{cat}
+use Rattle.leaves.specs.Put.{put}
 use Rattle.rows.specs.StoredRows.{cell24}
 use Rattle.rows.proofs.MaskCells.{no_cells}
 use Rattle.rows.proofs.Exchanges.{first_cell, sixteen_cells}
@@ -9,27 +11,19 @@ returns-then-w-eq0 c =
     let a = c.args in
     (omega arith, no_cells (cell24 false a.src.now) a.dst.now a.at)
 
-pub exchange_cell-requires : goal.exchange_cell-requires
-exchange_cell-requires c = record { x_in_bounds = omega arith; at_in_bounds = omega arith }
-
-pub loop-x-init : goal.loop-x-init
-loop-x-init c = (omega arith, omega arith, refl, λ d room e. e)
-
-pub exchange_sixteen-requires : goal.exchange_sixteen-requires
-exchange_sixteen-requires c = record { cell_start = omega arith; le_i = omega arith; i_in_bounds = omega arith; at_in_bounds = omega arith }
-
-pub loop-x-preserved : goal.loop-x-preserved
-loop-x-preserved c =
-    let l = c.loop-x in
+pub loop-turn-preserved : goal.loop-turn-preserved
+loop-turn-preserved c =
+    let l = c.loop-turn in
     let a = c.args in
-    let p = c.exchange_sixteen in (
-      omega arith,
-      omega arith,
-      omega arith,
-      λ d room e. sixteen_cells a.src.now d l.dst p.new.dst a.at l.x (l.x + 16) (l.invariant.3 d room e) p.ensures refl (omega arith),
-    )
+    let p = c.exchange_sixteen in
+    λ d room e. sixteen_cells a.src.now d l.dst p.new.dst a.at (1 + l.turn * 16) (1 + (l.turn + 1) * 16) (l.invariant d room e) p.ensures (omega arith) (omega arith)
 
 pub returns : goal.returns
 returns c =
     let a = c.args in
-    (omega arith, c.loop-x.invariant.3 a.dst.now (omega arith) (first_cell a.src.now a.dst.now a.at c.exchange_cell.new.dst c.exchange_cell.ensures))
+    let l = c.loop-turn in
+    let all : l.turn ≡ c.saturating_sub-turns.result / 16 = omega arith in (
+      omega arith,
+      l.invariant a.dst.now (omega arith) (first_cell a.src.now a.dst.now a.at c.exchange_cell.new.dst c.exchange_cell.ensures)
+          ∙ ap (λ (n : ℕ). put a.dst.now a.at (cat (cell24 false a.src.now) (1 + n * 16))) all,
+    )

@@ -8,35 +8,20 @@ use Rattle.rows.proofs.folds.folded.Goals as goal
 at-depth : (d k r : ℕ) (cell : ℕ → ℕ) → d ≡ k → r ≡ lanes (2 ^ (64 / k)) (packed_byte_of k cell) k → r ≡ lanes (2 ^ (64 / d)) (packed_byte_of d cell) d
 at-depth d k r cell e f = subst (λ (z : ℕ). r ≡ lanes (2 ^ (64 / z)) (packed_byte_of z cell) z) (sym e) f
 
-pub fold-pairs-requires : goal.fold-pairs-requires
-fold-pairs-requires c = (omega arith, omega arith)
-
-pub fold-requires : goal.fold-requires
-fold-requires c = (omega arith, omega arith)
-
-pub returns-then-bpp-eq2 : goal.returns-then-bpp-eq2
+pub returns-then-this-eq2 : goal.returns-then-this-eq2
 unfolding packed_byte_of lanes word
-returns-then-bpp-eq2 c =
+returns-then-this-eq2 g c =
     let a = c.args in
     let cell : ℕ → ℕ = λ i. get_or a.src.now i 0 in
     let from : ℕ → ℕ = λ i. cell (a.x + i) in
     let small : (i : ℕ) → cell i < 256 = λ i. omega (arith, c.shared_slice_known-1.given i) in
     let cells = cut_law 2 c.le64-w.result 0x0303030303030303 a.x cell (omega arith) small c.le64-w.ensures refl in
     let pairs = fold_law 2 1 8 4 _ _ _ _ _ from (omega arith) refl cells c.fold-pairs.ensures refl refl refl in
-    at-depth a.bpp 2 _ from c.if-bpp-eq2.true (fold_law 2 2 16 2 _ _ _ _ _ from (omega arith) refl pairs c.fold.ensures refl refl refl)
-
-pub fold-pairs-requires-2 : goal.fold-pairs-requires-2
-fold-pairs-requires-2 c = (omega arith, omega arith)
-
-pub fold-fours-requires : goal.fold-fours-requires
-fold-fours-requires c = (omega arith, omega arith)
-
-pub fold-requires-2 : goal.fold-requires-2
-fold-requires-2 c = (omega arith, omega arith)
+    at-depth g.row.BPP 2 _ from c.if-this-eq2.true (fold_law 2 2 16 2 _ _ _ _ _ from (omega arith) refl pairs c.fold.ensures refl refl refl)
 
 pub returns : goal.returns
 unfolding packed_byte_of lanes word
-returns c =
+returns g c =
     let a = c.args in
     let cell : ℕ → ℕ = λ i. get_or a.src.now i 0 in
     let from : ℕ → ℕ = λ i. cell (a.x + i) in
@@ -44,4 +29,4 @@ returns c =
     let cells = cut_law 1 c.le64-w.result 0x0101010101010101 a.x cell (omega arith) small c.le64-w.ensures refl in
     let pairs = fold_law 1 1 8 4 _ _ _ _ _ from (omega arith) refl cells c.fold-pairs-2.ensures refl refl refl in
     let fours = fold_law 1 2 16 2 _ _ _ _ _ from (omega arith) refl pairs c.fold-fours.ensures refl refl refl in
-    at-depth a.bpp 1 _ from (folded_one a.bpp c.requires.folded_depth c.if-bpp-eq2.false) (fold_law 1 4 32 1 _ _ _ _ _ from (omega arith) refl fours c.fold-2.ensures refl refl refl)
+    at-depth g.row.BPP 1 _ from (folded_one g.row.BPP c.requires.folded_depth c.if-this-eq2.false) (fold_law 1 4 32 1 _ _ _ _ _ from (omega arith) refl fours c.fold-2.ensures refl refl refl)

@@ -1,4 +1,4 @@
-use Rattle.std.proofs.Common.{◌≡◌, ℕ, ◌+◌, ◌-◌, ◌*◌, ◌≤◌, List, length, get_or, drop}
+use Rattle.std.proofs.Common.{◌≡◌, ℕ, ◌+◌, ◌*◌, List, get_or, drop}
 use Rattle.leaves.specs.Lists.{tab}
 use Rattle.leaves.specs.Put.{put}
 use Rattle.rows.specs.Packing.{packed_byte_of}
@@ -8,13 +8,5 @@ use Rattle.rows.proofs.indices.pack_folded.Given as goal
 abbrev pub byte : List ℕ → ℕ → ℕ → ℕ
 byte src bpp k = packed_byte_of bpp (λ x. get_or src x 0) k
 
-abbrev pub invariant-loop-i : goal.invariant-loop-i
-invariant-loop-i l = (l.i ≤ l.most)
-    × (l.most * 8 ≤ length l.src)
-    × (l.most * l.bpp ≤ l.n)
-    × (l.o ≡ l.i * l.bpp)
-    × (length l.dst ≡ length l.initial.dst)
-    × (put l.dst (l.at + l.o) (drop l.o (tab (byte l.src l.bpp) l.n)) ≡ put l.initial.dst l.at (tab (byte l.src l.bpp) l.n))
-
-abbrev pub decreases-loop-i : goal.decreases-loop-i
-decreases-loop-i l = l.most - l.i
+abbrev pub invariant-loop-turn : goal.invariant-loop-turn
+invariant-loop-turn g l = put l.dst (l.at + l.turn * g.row.BPP) (drop (l.turn * g.row.BPP) (tab (byte l.src g.row.BPP) l.n)) ≡ put l.initial.dst l.at (tab (byte l.src g.row.BPP) l.n)

@@ -34,8 +34,8 @@ pack_bytes-requires c =
     let a = c.args in
     record { table_depth = c.requires.table_depth; n_bound = omega (arith, stride-small (length a.src.now) a.bpp (omega arith) (depth a.bpp c.requires.table_depth).small); n_in_bounds = omega arith }
 
-pub returns : goal.returns
-returns c =
+pub returns-else-bpp-eq8 : goal.returns-else-bpp-eq8
+returns-else-bpp-eq8 c =
     let a = c.args in
     let p = c.pack_bytes in
     let r = c.row_stride-stride in

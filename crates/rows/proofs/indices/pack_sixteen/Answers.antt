@@ -1,32 +1,26 @@
-use Rattle.std.proofs.Common.{◌+◌, get_or, sym, refl, ap, ◌∙◌, arith, length-set}
+use Rattle.std.proofs.Common.{◌+◌, get_or, refl, ◌∙◌, arith, length-set}
 use Rattle.leaves.specs.Lists.{tab}
-use Rattle.leaves.specs.Put.{put}
+use Rattle.leaves.proofs.ListLaws.{length-tab}
+use Rattle.leaves.proofs.Puts.{part_put}
 use Rattle.rows.proofs.Nibbles.{byte_4, fill, filled}
 use Rattle.rows.proofs.indices.pack_sixteen.Invariants.{byte}
 use Rattle.rows.proofs.indices.pack_sixteen.Goals as goal
 
 pub loop-j-init : goal.loop-j-init
 unfolding tab
-loop-j-init c = (omega arith, refl, refl)
+loop-j-init c = (refl, refl)
 
 pub loop-j-preserved : goal.loop-j-preserved
 loop-j-preserved c =
     let l = c.loop-j in
     let a = c.args in (
-      omega arith,
-      simp length-set l.invariant.1,
-      fill l.bytes (byte a.src.now a.i) l.j c.nibbles.result (omega arith) l.invariant.2 (c.nibbles.ensures ∙ byte_4 (λ x. get_or a.src.now x 0) (a.i + l.j)),
+      simp length-set l.invariant.0,
+      fill l.bytes (byte a.src.now a.i) l.j c.nibbles.result (omega arith) l.invariant.1 (c.nibbles.ensures ∙ byte_4 (λ x. get_or a.src.now x 0) (a.i + l.j)),
     )
-
-pub slice_bounds-put_each-end : goal.slice_bounds-put_each-end
-slice_bounds-put_each-end c = sym c.loop-j.invariant.1
-
-pub put_each-requires : goal.put_each-requires
-put_each-requires c = omega (arith, c.loop-j.invariant.1)
 
 pub returns : goal.returns
 returns c =
     let l = c.loop-j in
     let a = c.args in
-    c.put_each.ensures
-    ∙ ap (put a.dst.now a.at) (filled l.bytes (byte a.src.now a.i) l.j 16 l.invariant.1 l.invariant.0 (omega arith) l.invariant.2)
+    let f = byte a.src.now a.i in
+    part_put a.dst.now _ (tab f 16) a.at 16 (c.copy_from_slice.ensures.after ∙ filled l.bytes f l.j 16 l.invariant.0 (omega arith) (omega arith) l.invariant.1) (length-tab f 16)

@@ -1,4 +1,4 @@
-use Rattle.std.proofs.Common.{◌≡◌, ℕ, ◌+◌, ◌-◌, ◌≤◌, List, length, get_or, take}
+use Rattle.std.proofs.Common.{◌≡◌, ℕ, ◌+◌, List, length, get_or, take}
 use Rattle.leaves.specs.Lists.{tab}
 use Rattle.rows.specs.Packing.{packed_byte_of}
 use Rattle.rows.proofs.indices.pack_sixteen.Given as goal
@@ -8,7 +8,4 @@ abbrev pub byte : List ℕ → ℕ → ℕ → ℕ
 byte src i k = packed_byte_of 4 (λ x. get_or src x 0) (i + k)
 
 abbrev pub invariant-loop-j : goal.invariant-loop-j
-invariant-loop-j l = (l.j ≤ 16) × (length l.bytes ≡ 16) × (take l.j l.bytes ≡ tab (byte l.src l.i) l.j)
-
-abbrev pub decreases-loop-j : goal.decreases-loop-j
-decreases-loop-j l = 16 - l.j
+invariant-loop-j l = (length l.bytes ≡ 16) × (take l.j l.bytes ≡ tab (byte l.src l.i) l.j)

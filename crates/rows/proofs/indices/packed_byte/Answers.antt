@@ -1,4 +1,4 @@
-use Rattle.std.proofs.Common.{◌≡◌, ℕ, ◌+◌, ◌*◌, ◌/◌, ◌%◌, ◌^◌, ◌<◌, ◌≤◌, List, sym, refl, ap, ◌∙◌, mul-le-mul, le_antisymm, arith, pow_pos, pow_mono}
+use Rattle.std.proofs.Common.{◌≡◌, ℕ, ◌+◌, ◌*◌, ◌/◌, ◌%◌, ◌^◌, ◌<◌, List, sym, refl, ap, ◌∙◌, le_antisymm, arith, pow_mono}
 use lib.ListN.{get_or-eq_default}
 use Rattle.rows.specs.Packing.{digits, packed_byte_of}
 use Rattle.rows.proofs.PackLaws.{Depth, depth, digits_byte, digits_more, byte_none}
@@ -20,38 +20,12 @@ fits : {d : ℕ} → Depth d → (cells : List ℕ) (i j byte index : ℕ) → j
     → byte * (1 * 2 ^ d % 4294967296) + index % (1 * 2 ^ d % 4294967296) < 256
 fits {d} q cells i j byte index h e f = rw (turn q cells i j byte index e f) (digits_byte q (cell cells d i) (j + 1) (omega arith))
 
--- a cell's place in the row is small
-place : {d : ℕ} → Depth d → (i : ℕ) → i < 2 ^ 40 → i * (8 / d) ≤ 8 * 2 ^ 40
-place {d} q i h =
-    let l : i ≤ 2 ^ 40 = omega arith in
-    let m : i * (8 / d) ≤ 2 ^ 40 * 8 = mul-le-mul l q.few in
-    omega arith
-
-pub nonzero_div-per : goal.nonzero_div-per
-nonzero_div-per c = (depth c.args.bpp c.requires.table_depth).some
-
-pub overflow_mul-i : goal.overflow_mul-i
-overflow_mul-i c = omega (arith, place (depth c.args.bpp c.requires.table_depth) c.args.i c.requires.i_bound)
-
 pub returns-then-i-per : goal.returns-then-i-per
 returns-then-i-per c = let a = c.args in sym (byte_none a.bpp a.i a.src.now c.if-i-per.true)
 
-pub overflow_shl-base : goal.overflow_shl-base
-overflow_shl-base c = omega (arith, (depth c.args.bpp c.requires.table_depth).small)
-
 pub loop-j-init : goal.loop-j-init
 unfolding digits
-loop-j-init c = (omega arith, refl)
-
-pub overflow_mul-x : goal.overflow_mul-x
-overflow_mul-x c = omega (arith, place (depth c.args.bpp c.requires.table_depth) c.args.i c.requires.i_bound)
-
-pub overflow_add-x : goal.overflow_add-x
-overflow_add-x c = let q = depth c.args.bpp c.requires.table_depth in
-    omega (arith, place q c.args.i c.requires.i_bound, q.few)
-
-pub overflow_cast-index : goal.overflow_cast-index
-overflow_cast-index c = omega (arith, c.shared_slice_known-1.given (c.args.i * (8 / c.args.bpp) + c.loop-j.j))
+loop-j-init c = refl
 
 pub overflow_mul-byte : goal.overflow_mul-byte
 overflow_mul-byte c =
@@ -59,10 +33,7 @@ overflow_mul-byte c =
     let l = c.loop-j in
     let q = depth a.bpp c.requires.table_depth in
     let e : c.if-x-src.index ≡ cell a.src.now a.bpp a.i l.j = elim (c.if-x-src.branch) [ then-x-src w ↦ w.index-is | else-x-src w ↦ w.index-is ∙ sym (get_or-eq_default a.src.now 0 w.if-x-src.false) ] in
-    omega (arith, fits q a.src.now a.i l.j l.byte c.if-x-src.index c.loop-j-test.true l.invariant.1 e)
-
-pub nonzero_rem-byte : goal.nonzero_rem-byte
-nonzero_rem-byte c = rw (base-is (depth c.args.bpp c.requires.table_depth)) (pow_pos c.args.bpp)
+    omega (arith, fits q a.src.now a.i l.j l.byte c.if-x-src.index c.loop-j-test.true l.invariant e)
 
 pub overflow_add-byte : goal.overflow_add-byte
 overflow_add-byte c =
@@ -70,10 +41,7 @@ overflow_add-byte c =
     let l = c.loop-j in
     let q = depth a.bpp c.requires.table_depth in
     let e : c.if-x-src.index ≡ cell a.src.now a.bpp a.i l.j = elim (c.if-x-src.branch) [ then-x-src w ↦ w.index-is | else-x-src w ↦ w.index-is ∙ sym (get_or-eq_default a.src.now 0 w.if-x-src.false) ] in
-    omega (arith, fits q a.src.now a.i l.j l.byte c.if-x-src.index c.loop-j-test.true l.invariant.1 e)
-
-pub overflow_add-j : goal.overflow_add-j
-overflow_add-j c = omega (arith, (depth c.args.bpp c.requires.table_depth).few)
+    omega (arith, fits q a.src.now a.i l.j l.byte c.if-x-src.index c.loop-j-test.true l.invariant e)
 
 pub loop-j-preserved : goal.loop-j-preserved
 loop-j-preserved c =
@@ -81,17 +49,17 @@ loop-j-preserved c =
     let l = c.loop-j in
     let q = depth a.bpp c.requires.table_depth in
     let e : c.if-x-src.index ≡ cell a.src.now a.bpp a.i l.j = elim (c.if-x-src.branch) [ then-x-src w ↦ w.index-is | else-x-src w ↦ w.index-is ∙ sym (get_or-eq_default a.src.now 0 w.if-x-src.false) ] in
-    (omega arith, turn q a.src.now a.i l.j l.byte c.if-x-src.index l.invariant.1 e)
+    turn q a.src.now a.i l.j l.byte c.if-x-src.index l.invariant e
 
 pub overflow_cast-result : goal.overflow_cast-result
 overflow_cast-result c =
     let a = c.args in
     let l = c.loop-j in
-    omega (arith, digits_byte (depth a.bpp c.requires.table_depth) (cell a.src.now a.bpp a.i) l.j l.invariant.0)
+    omega (arith, digits_byte (depth a.bpp c.requires.table_depth) (cell a.src.now a.bpp a.i) l.j (omega arith))
 
 pub returns : goal.returns
 unfolding packed_byte_of
 returns c =
     let a = c.args in
     let l = c.loop-j in
-    l.invariant.1 ∙ ap (digits (2 ^ a.bpp) (cell a.src.now a.bpp a.i)) (le_antisymm l.invariant.0 c.loop-j-test.false)
+    l.invariant ∙ ap (digits (2 ^ a.bpp) (cell a.src.now a.bpp a.i)) (le_antisymm (omega arith) c.loop-j-test.false)

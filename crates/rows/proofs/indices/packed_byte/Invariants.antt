@@ -1,4 +1,4 @@
-use Rattle.std.proofs.Common.{◌≡◌, ℕ, ◌+◌, ◌-◌, ◌*◌, ◌/◌, ◌^◌, ◌≤◌, List, get_or}
+use Rattle.std.proofs.Common.{◌≡◌, ℕ, ◌+◌, ◌*◌, ◌/◌, ◌^◌, List, get_or}
 use Rattle.rows.specs.Packing.{digits}
 use Rattle.rows.proofs.indices.packed_byte.Given as goal
 
@@ -7,7 +7,4 @@ abbrev pub cell : List ℕ → ℕ → ℕ → ℕ → ℕ
 cell cells d i k = get_or cells (i * (8 / d) + k) 0
 
 abbrev pub invariant-loop-j : goal.invariant-loop-j
-invariant-loop-j l = (l.j ≤ 8 / l.bpp) × (l.byte ≡ digits (2 ^ l.bpp) (cell l.src l.bpp l.i) l.j)
-
-abbrev pub decreases-loop-j : goal.decreases-loop-j
-decreases-loop-j l = 8 / l.bpp - l.j
+invariant-loop-j l = l.byte ≡ digits (2 ^ l.bpp) (cell l.src l.bpp l.i) l.j

@@ -2,9 +2,6 @@ use Rattle.std.proofs.Common.{arith}
 use Rattle.rows.proofs.MaskCells.{field_is}
 use Rattle.rows.proofs.masks.mask_field.Goals as goal
 
-pub quantise-requires : goal.quantise-requires
-quantise-requires c = record { widens = c.requires.widens; n_bound = omega arith }
-
 pub returns : goal.returns
 returns c =
     let a = c.args in

@@ -1,18 +1,12 @@
-use Rattle.std.proofs.Common.{ap, ◌∙◌, arith}
-use Rattle.leaves.specs.Put.{put}
-use Rattle.rows.proofs.MaskCells.{word16, word32, four_bytes}
+use Rattle.std.proofs.Common.{◌∙◌, take, ap, arith, length-take-le}
+use Rattle.leaves.specs.Bytes.{le32, length-le32}
+use Rattle.leaves.proofs.ListLaws.{le32_bytes}
+use Rattle.leaves.proofs.Puts.{part_put}
 use Rattle.rows.proofs.masks.put_cell.Goals as goal
 
-pub returns-then-bpp-eq16 : goal.returns-then-bpp-eq16
-returns-then-bpp-eq16 c =
-    let a = c.args in
-    c.put_u16.ensures ∙ ap (put a.dst.now a.at) (word16 a.bpp a.word c.if-bpp-eq16.true)
-
-pub put_u32-requires : goal.put_u32-requires
-put_u32-requires c =
-    omega (arith, four_bytes c.args.bpp c.requires.known_depth c.if-bpp-eq16.false)
-
 pub returns : goal.returns
-returns c =
+returns g c =
     let a = c.args in
-    c.put_u32.ensures ∙ ap (put a.dst.now a.at) (word32 a.bpp a.word c.if-bpp-eq16.false)
+    let k = g.row.BYTES in
+    part_put a.dst.now _ (take k (le32 a.word)) a.at k (c.copy_from_slice.ensures.after ∙ ap (take k) (c.to_le_bytes.ensures ∙ le32_bytes a.word))
+    (length-take-le k (le32 a.word) (omega (arith, length-le32 a.word)))

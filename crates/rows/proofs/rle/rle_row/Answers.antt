@@ -1,7 +1,7 @@
-use Rattle.std.proofs.Common.{◌≡◌, ℕ, ◌+◌, ◌≤◌, Bool, true, false, cond, List, [], ◌∷◌, ◌++◌, length, set, refl, ap, ◌∙◌, arith, length-set}
+use Rattle.std.proofs.Common.{◌≡◌, ℕ, ◌+◌, ◌≤◌, Bool, true, false, cond, List, [], ◌∷◌, ◌++◌, length, set, refl, ap, ◌∙◌, arith}
 use mir.Val.{bool_byte}
 use Rattle.leaves.specs.Put.{put}
-use Rattle.rows.specs.RleCodes.{depth_of, row_codes}
+use Rattle.rows.specs.RleCodes.{is_rle4, depth_of, row_codes}
 use Rattle.leaves.proofs.Puts.{put-append, length-put}
 use Rattle.rows.proofs.RleBytes.{put_pair}
 use Rattle.rows.proofs.rle.rle_row.Goals as goal
@@ -18,14 +18,8 @@ end-put buf buf' r at o last eo eb fits =
     put_pair buf' o 0 (bool_byte last) (cond last 1 0) (omega arith) (mark last)
     ∙ rw (eo, eb) (put-append buf at r (0 ∷ cond last 1 0 ∷ []) (omega arith))
 
-pub bounds-buf-o-2 : goal.bounds-buf-o-2
-bounds-buf-o-2 c = simp length-set (omega arith)
-
-pub shape_of-buf : goal.shape_of-buf
-shape_of-buf c = simp length-set (omega arith)
-
 pub returns : goal.returns
 returns c =
     let a = c.args in
-    let r = row_codes (depth_of a.four) a.row.now in
+    let r = row_codes (depth_of (is_rle4 a.rle)) a.row.now in
     (omega arith, end-put a.buf.now c.encode_rle_row-o.new.buf r a.at c.encode_rle_row-o.result a.last c.encode_rle_row-o.ensures.0 c.encode_rle_row-o.ensures.1 (omega arith))

@@ -3,12 +3,6 @@ use Rattle.rows.specs.Windows.{charged}
 use Rattle.rows.proofs.Charges.{below_law, below_le}
 use Rattle.rows.proofs.windows.charge_below.Goals as goal
 
-pub overflow_cast-result-3 : goal.overflow_cast-result-3
-overflow_cast-result-3 c = omega (arith, below_le c.charges.result c.args.v)
-
-pub overflow_mul-result : goal.overflow_mul-result
-overflow_mul-result c = omega (arith, below_le c.charges.result c.args.v)
-
 pub returns : goal.returns
 returns c =
     let x = c.charges.result in

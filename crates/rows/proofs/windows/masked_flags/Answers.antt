@@ -15,10 +15,10 @@ pub loop-k-preserved : goal.loop-k-preserved
 loop-k-preserved c =
     let a = c.args in
     let l = c.loop-k in
-    flags_turn (alike a.row.now a.mask a.at) l.flags l.k c.same.result (omega arith) l.invariant.1 l.invariant.2 c.same.ensures
+    flags_turn (alike a.row.now a.mask a.at) l.flags l.k c.same.result (omega arith) l.invariant.0 l.invariant.1 c.same.ensures
 
 pub returns : goal.returns
 returns c d e =
     let a = c.args in
-    c.packed.ensures (alike a.row.now a.mask a.at) (λ j l. c.loop-k.invariant.2 j (omega arith))
+    c.packed.ensures (alike a.row.now a.mask a.at) (λ j l. c.loop-k.invariant.1 j (omega arith))
     ∙ bits_ext _ _ 64 (λ k l. ap₂ eqb (masked a.row.now d a.mask (a.at + k) e) (masked a.row.now d a.mask (a.at + k + 1) e))

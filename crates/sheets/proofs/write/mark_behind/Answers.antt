@@ -1,8 +1,12 @@
 use borrow.Author.Tests.{ne_eqb, eq-eqb}
+use Prim.Native.Nat.{◌+◌, ◌%◌}
+use Rattle.sheets.specs.SheetTexts.{mark_behind}
 use Rattle.sheets.proofs.write.mark_behind.Goals as goal
 
-pub returns-then-next-width : goal.returns-then-next-width
-returns-then-next-width c = let a = c.args in rw (eq-eqb a.next a.width c.if-next-width.true)
+pub returns-then-k-width-eq0 : goal.returns-then-k-width-eq0
+unfolding mark_behind
+returns-then-k-width-eq0 c = let a = c.args in rw (eq-eqb ((a.k + 1) % a.width) 0 c.if-k-width-eq0.true)
 
-pub returns-else-next-width : goal.returns-else-next-width
-returns-else-next-width c = let a = c.args in rw (ne_eqb a.next a.width c.if-next-width.false)
+pub returns-else-k-width-eq0 : goal.returns-else-k-width-eq0
+unfolding mark_behind
+returns-else-k-width-eq0 c = let a = c.args in rw (ne_eqb ((a.k + 1) % a.width) 0 c.if-k-width-eq0.false)

@@ -1,21 +1,21 @@
-use Rattle.std.proofs.Common.{length}
-use Rattle.rows.proofs.ShortFields.{depth32, room}
+use Rattle.std.proofs.Common.{false, arith}
+use Rattle.rows.specs.StoredRows.{mask_cell}
+use Rattle.rows.proofs.MaskCells.{no_cells, word_turn, all_put}
+use Rattle.rows.proofs.ShortFields.{of_pixel}
 use Rattle.rows.proofs.masks.MaskLayout.short_cells.Goals as goal
 
-pub short_cells16-requires : goal.short_cells16-requires
-short_cells16-requires c =
-    let a = c.args in
-    let deep = c.if-self-eq16.true in
-    record { layout_ok = c.requires.layout_ok; short_ok = c.requires.short_ok; depth_16 = deep; src_len = c.requires.src_len; width_in_bounds = room a.width a.self.bpp a.at (length a.dst.now) 2 deep c.requires.bpp_in_bounds }
+pub loop-x-init : goal.loop-x-init
+loop-x-init g c = let a = c.args in no_cells (mask_cell a.self 4 false a.src.now) a.dst.now a.at
 
-pub returns-then-self-eq16 : goal.returns-then-self-eq16
-returns-then-self-eq16 c = c.short_cells16.ensures
-
-pub short_cells32-requires : goal.short_cells32-requires
-short_cells32-requires c =
+pub loop-x-preserved : goal.loop-x-preserved
+loop-x-preserved g c =
+    let l = c.loop-x in
     let a = c.args in
-    let deep = depth32 a.self.bpp c.requires.layout_ok.depth c.if-self-eq16.false in
-    record { layout_ok = c.requires.layout_ok; short_ok = c.requires.short_ok; depth_32 = deep; src_len = c.requires.src_len; width_in_bounds = room a.width a.self.bpp a.at (length a.dst.now) 4 deep c.requires.bpp_in_bounds }
+    word_turn a.self 4 a.src.now a.dst.now l.dst c.put_cell.new.dst a.at g.row.BYTES l.x a.width c.short_word-word.result c.requires.layout_ok.depth c.requires.depth c.loop-x-test.true c.requires.width_in_bounds l.invariant
+    (of_pixel a.self a.src.now l.x c.pixel_word.result c.short_word-word.result c.pixel_word.ensures c.short_word-word.ensures) c.put_cell.ensures
 
 pub returns : goal.returns
-returns c = c.short_cells32.ensures
+returns g c =
+    let a = c.args in
+    let l = c.loop-x in
+    all_put (mask_cell a.self 4 false a.src.now) a.dst.now l.dst a.at l.x a.width (omega arith) l.invariant

@@ -1,24 +1,15 @@
 use Rattle.std.proofs.Common.{◌+◌, ◌*◌, ◌<◌, false, length, get_or, ap, arith, eq-eqb, ne_eqb}
 use Rattle.rows.specs.StoredRows.{channel_at}
 use Rattle.rows.proofs.FieldLists.{length_fields, field-read}
-use Rattle.rows.proofs.MaskCells.{word_of, three_bytes}
+use Rattle.rows.proofs.MaskCells.{word_of}
 use Rattle.rows.proofs.masks.MaskLayout.word.Goals.{else-in_bpp-eq4, then-in_bpp-eq4}
 use Rattle.rows.proofs.masks.MaskLayout.word.Goals as goal
-
-pub bounds-src-s-2 : goal.bounds-src-s-2
-bounds-src-s-2 c = omega (arith, three_bytes c.args.in_bpp c.requires.known_size)
 
 pub field_of-r-requires : goal.field_of-r-requires
 field_of-r-requires c = omega (arith, ap length c.requires.fields_made, length_fields c.args.self false)
 
-pub bounds-src-s-3 : goal.bounds-src-s-3
-bounds-src-s-3 c = omega (arith, three_bytes c.args.in_bpp c.requires.known_size)
-
 pub field_of-g-requires : goal.field_of-g-requires
 field_of-g-requires c = omega (arith, ap length c.requires.fields_made, length_fields c.args.self false)
-
-pub bounds-src-s-4 : goal.bounds-src-s-4
-bounds-src-s-4 c = omega (arith, three_bytes c.args.in_bpp c.requires.known_size)
 
 pub field_of-b-requires : goal.field_of-b-requires
 field_of-b-requires c = omega (arith, ap length c.requires.fields_made, length_fields c.args.self false)

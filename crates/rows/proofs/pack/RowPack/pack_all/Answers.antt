@@ -3,7 +3,7 @@ use Rattle.leaves.specs.Put.{put}
 use Rattle.leaves.specs.Sizes.{row_stride}
 use Rattle.rows.specs.Starts.{noted}
 use Rattle.rows.specs.StoredRows.{pack_bits, is_copied}
-use Rattle.rows.proofs.AllRows.{no_fields, copied_fits, copied_rows}
+use Rattle.rows.proofs.AllRows.{copied_fits, copied_rows}
 use Rattle.rows.proofs.pack.RowPack.pack_all.Goals.{After-row_stride, Then-is_copied}
 use Rattle.rows.proofs.pack.RowPack.pack_all.Goals as goal
 
@@ -14,9 +14,6 @@ copied c = sym c.is_copied.ensures ∙ c.if-is_copied.true
 -- the length of a stored row
 size : (c : After-row_stride) → c.row_stride.result ≡ row_stride c.args.width (pack_bits c.args.self)
 size c = c.row_stride.ensures ∙ ap (row_stride c.args.width) c.bits_per_pixel.ensures
-
-pub overflow_mul-width : goal.overflow_mul-width
-overflow_mul-width c = omega (arith, ap (λ (z : ℕ). c.args.width * z) c.source_bytes.ensures)
 
 pub copy_rows-requires : goal.copy_rows-requires
 copy_rows-requires c =
@@ -35,11 +32,3 @@ returns-then-is_copied c =
           (λ i. (c.shared_slice_known-1.given i).fits) (ap (λ (z : ℕ). a.width * z) c.source_bytes.ensures) e c.requires.self_bound c.requires.height_in_bounds);
       starts_after = r.ensures.starts_after ∙ ap (λ (z : ℕ). noted (λ k. a.at - a.origin + k * z) a.starts.now a.height) e;
     }
-
-pub pack_rows-requires : goal.pack_rows-requires
-pack_rows-requires c =
-    record { pack_ok = c.requires.pack_ok; self_bound = c.requires.self_bound; height_in_bounds = c.requires.height_in_bounds; dst_in_bounds = c.requires.dst_in_bounds; origin_le_at = c.requires.origin_le_at; fields_ok = c.put_fields.ensures }
-
-pub pack_rows-requires-2 : goal.pack_rows-requires-2
-pack_rows-requires-2 c =
-    record { pack_ok = c.requires.pack_ok; self_bound = c.requires.self_bound; height_in_bounds = c.requires.height_in_bounds; dst_in_bounds = c.requires.dst_in_bounds; origin_le_at = c.requires.origin_le_at; fields_ok = no_fields c.args.self _ (sym c.in_mask_mode.ensures ∙ c.if-in_mask_mode.false) }

@@ -1,7 +1,0 @@
-use Rattle.leaves.proofs.bitfields.BmpBitfields.compression.Goals as goal
-
-pub returns-then-has_alpha : goal.returns-then-has_alpha
-returns-then-has_alpha c = rw (← c.has_alpha.ensures, c.if-has_alpha.true)
-
-pub returns : goal.returns
-returns c = rw (← c.has_alpha.ensures, c.if-has_alpha.false)

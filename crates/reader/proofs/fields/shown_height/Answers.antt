@@ -1,9 +1,0 @@
-use borrow.Author.Tests.{le-leb, lt-leb}
-use native.Mathlib.Omega.{arith}
-use Rattle.reader.proofs.fields.shown_height.Goals as goal
-
-pub returns-then-t-ge2147483648 : goal.returns-then-t-ge2147483648
-returns-then-t-ge2147483648 c = rw (le-leb 2147483648 c.args.t.height c.if-t-ge2147483648.true) (omega arith)
-
-pub returns : goal.returns
-returns c = rw (lt-leb 2147483648 c.args.t.height c.if-t-ge2147483648.false)

@@ -1,7 +1,0 @@
-use Rattle.rows.proofs.blocks.cell_mask.Goals as goal
-
-pub returns-then-four : goal.returns-then-four
-returns-then-four c = rw c.if-four.true
-
-pub returns-else-four : goal.returns-else-four
-returns-else-four c = rw c.if-four.false

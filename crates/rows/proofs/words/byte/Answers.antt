@@ -1,8 +1,0 @@
-use Rattle.std.proofs.Common.{refl, arith}
-use Rattle.rows.proofs.words.byte.Goals as goal
-
-pub overflow_cast-result : goal.overflow_cast-result
-overflow_cast-result c = omega (arith, c.shared_slice_known-1.given c.args.k)
-
-pub returns : goal.returns
-returns c = (refl, omega (arith, c.shared_slice_known-1.given c.args.k))
