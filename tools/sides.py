@@ -57,9 +57,11 @@ def funcs(text):
             for s,n in imp:
                 if s<m.start(): owner=n+"::"
         out[owner+m.group(3)]="\n".join(x[len(m.group(1).strip("\n")):] if x.startswith(m.group(1).strip("\n")) else x for x in head)
-    for m in re.finditer(r"((?:^#\[[^\n]*\]\n)*)^pub (struct|enum|const|trait|type) (\w+)(.*?)(?:^\}|;\n)",text,re.M|re.S):
-        if m.group(2)=="const" and len(m.group(0))>600: continue
-        out[m.group(2)+" "+m.group(3)]=m.group(0).rstrip()
+    attributes = r"((?:^#\[[^\n]*\]\n)*)"
+    for kind, end in (("struct|enum|trait", r"(?:^\}|\);)\n"), ("const|type", r";\n")):
+        for m in re.finditer(attributes + r"^pub (%s) (\w+)(.*?)%s" % (kind, end), text, re.M | re.S):
+            if len(m.group(0)) < 2000:
+                out[m.group(2) + " " + m.group(3)] = m.group(0).rstrip()
     return out
 def collect(c):
     defs,ths,fns={}, {}, {}

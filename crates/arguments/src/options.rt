@@ -97,7 +97,7 @@ const OPTIONS: [CommandOption; 29] = [
     CommandOption::Highs,
 ];
 
-// What counts as the number of a value that is none, as the check says before: 2^60.
+// What counts as the number of a value that is none, 2^60. The check refuses such words before.
 const NO_NUMBER: u64 = 1 << 60;
 
 // The word that starts at a place.
@@ -169,7 +169,7 @@ fn after_option(words: &[u8], at: usize) -> usize
 
 // ---- one option
 
-// Where an option is given last.
+// Where an option is given last. From one option to the next it is one word or two: no iterator of the library goes so.
 fn last_given(words: &[u8], option: CommandOption) -> Option<usize>
     ensures { MatchOption result (last_given (place_of option) (words_of words.now) ≡ []) (λ at. (at < length words.now) × (words_of (drop at words.now) ≡ last_given (place_of option) (words_of words.now))) }
 {
@@ -300,7 +300,7 @@ pub fn fault_at(words: &[u8], at: usize) -> Option<Fault>
     }
 }
 
-// The place of the first option that is not understood.
+// The place of the first option that is not understood, by the same steps.
 pub fn first_fault(words: &[u8]) -> Option<usize>
     ensures { MatchOption result (first_fault (words_of words.now) ≡ []) (λ at. (at < length words.now) × (words_of (drop at words.now) ≡ first_fault (words_of words.now))) }
 {

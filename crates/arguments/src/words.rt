@@ -1,5 +1,5 @@
 // What a text is cut into: a command's words, the items of a list.
-ghost use Rattle.std.specs.Prelude.{◌≡◌, ◌&&◌, ◌+◌, ◌≤◌, ◌<◌, SomeIff, length, drop};
+ghost use Rattle.std.specs.Prelude.{◌≡◌, ◌+◌, ◌≤◌, ◌<◌, SomeIff, length, drop};
 ghost use Rattle.arguments.specs.Words.{part_of, up_to, items_of, item_at, alike, byte_in, in_case, place_among};
 
 // The bytes of a slice from one place to another; none where that is no part of it.
@@ -49,13 +49,6 @@ fn same_in(text: &[u8], name: &[u8], any_case: bool) -> bool
             .iter()
             .zip(name)
             .all(|(a, b)| *a == byte_in(*b, any_case))
-}
-
-// Whether both of two facts hold.
-pub fn both(a: bool, b: bool) -> bool
-    ensures { result ≡ (a && b) }
-{
-    a && b
 }
 
 // Item k of a list with a mark between its items; empty where there is none.

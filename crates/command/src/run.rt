@@ -15,7 +15,7 @@ use arguments::formats::written_name;
 use arguments::options::{
     CommandOption, format_asked, has_palette, is_given, options_asked, source_asked, value_of,
 };
-use arguments::words::{both, item};
+use arguments::words::item;
 use leaves::checks::below_product;
 use leaves::encoder::{EncodeSource, EncodedBmpFormat, written_names};
 use leaves::error::Refusal;
@@ -175,7 +175,7 @@ fn is_too_long(
     ensures { result ≡ too_long_of bound source bytes more }
 {
     match bound {
-        Ok(_) => both(is_longer(bytes, source.stride, source.height), !more),
+        Ok(_) => is_longer(bytes, source.stride, source.height) && !more,
         Err(_) => false,
     }
 }

@@ -8,11 +8,11 @@ ghost use Rattle.grids.specs.Scale.{number_of, answer_number, shade_of, index_of
 #[derive(Clone, Copy, Debug, PartialEq, Eq)]
 pub enum ShadeRefusal {
     // Highs or a plane shorter than the lows.
-    ListsTooShort,
+    ListsTooShort = 15,
     // No edge or over 254, an edge that is not a number, or edges that do not strictly rise.
-    NotScale,
+    NotScale = 22,
     // A low or high that is not a number, or a low above its high.
-    NotQuote,
+    NotQuote = 23,
 }
 
 impl ShadeRefusal {
@@ -20,11 +20,7 @@ impl ShadeRefusal {
     pub fn number(self) -> u32
         ensures { result ≡ number_of self }
     {
-        match self {
-            ShadeRefusal::ListsTooShort => 15,
-            ShadeRefusal::NotScale => 22,
-            ShadeRefusal::NotQuote => 23,
-        }
+        self as u32
     }
 }
 

@@ -6,13 +6,13 @@ ghost use Rattle.reader.specs.Refusals.{number_of};
 #[derive(Clone, Copy, Debug, PartialEq, Eq)]
 pub enum ReadRefusal {
     // The head is one that the writer never writes.
-    NeverWritten,
+    NeverWritten = 17,
     // A byte of header, masks, table, rows or profile lies outside the file.
-    OutsideFile,
+    OutsideFile = 18,
     // A lent buffer is too short.
-    BufferTooShort,
+    BufferTooShort = 15,
     // The stream steps over a row's end, ends too early or uses a delta code.
-    StreamFails,
+    StreamFails = 19,
 }
 
 impl ReadRefusal {
@@ -20,11 +20,6 @@ impl ReadRefusal {
     pub fn number(self) -> u32
         ensures { result ≡ number_of self }
     {
-        match self {
-            ReadRefusal::NeverWritten => 17,
-            ReadRefusal::OutsideFile => 18,
-            ReadRefusal::BufferTooShort => 15,
-            ReadRefusal::StreamFails => 19,
-        }
+        self as u32
     }
 }

@@ -76,14 +76,12 @@ fn refit_channels(pixel: u32, masks: [u32; 4]) -> u32 {
 // bits a pixel have room for such a channel: pixels of 16 bits stay, two at a time. What is too short to have
 // these numbers stays.
 fn refit_wide_channels(file: &mut [u8], masks: [u32; 4]) {
-    let mut at = dword(file, 10) as usize;
+    let at = dword(file, 10) as usize;
     if file.len() < 54 || file.len() < at {
         return;
     }
-    while file.len() - at >= 4 {
-        let pixel = dword(file, (at % 0x1_0000_0000) as u32);
-        put_number(file, at, refit_channels(pixel, masks));
-        at += 4;
+    for pixel in file[at..].as_chunks_mut::<4>().0 {
+        *pixel = refit_channels(u32::from_le_bytes(*pixel), masks).to_le_bytes();
     }
 }
 

@@ -54,13 +54,11 @@ fn are_rows(
     let numbers = numbers_in(format, src.width);
     let mut all = true;
     let mut at: usize = 0;
-    let mut y = 0;
-    while y < height {
+    for y in 0..height {
         let stored = if options.top_down { y } else { height - 1 - y };
         let read = read_row(file, start_at(starts, stored), cells);
         all = all & read.is_ok() & is_row(src, options, plane, at, cells, 0);
         at = at.saturating_add(stride);
-        y += 1;
     }
     all & is_unread(cells, numbers)
 }
