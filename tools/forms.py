@@ -1,11 +1,11 @@
 #!/usr/bin/env python3
-"""Lists the places of src/ that are written in a form of older languages: run at the top of the repository.
+"""Lists the places of src/ whose form docs/DESIGN-PASS.md speaks of: run at the top of the repository.
 
     python3 tools/forms.py          how many of each kind
     python3 tools/forms.py KIND     the places of one kind
 
-Kinds: enums (every enum, with the ones of the shape of Option or Result marked by reading), flags, codes, twins, loops,
-matches, facts, parameters. What a line stands for is decided by reading it; docs/DESIGN-PASS.md says which count.
+Kinds: enums, flags, codes, twins, loops, counted, matches, facts, parameters. What a line stands for is decided by
+reading it; docs/DESIGN-PASS.md says which count.
 """
 import difflib
 import glob
@@ -37,6 +37,16 @@ def grep(pattern, where=lambda path: True):
     return found
 
 
+def block_end(text, i):
+    """The place of the brace that closes the one at i."""
+    depth = 0
+    for j in range(i, len(text)):
+        depth += {"{": 1, "}": -1}.get(text[j], 0)
+        if depth == 0:
+            return j
+    return len(text)
+
+
 def functions():
     """Each function: file, line, name, the text up to its body, and the body."""
     found = []
@@ -44,18 +54,12 @@ def functions():
         lines = code(path)
         text = "\n".join(lines)
         for m in re.finditer(r"\bfn (\w+)", text):
-            at = text.find("\n{", m.start())
             inner = re.compile(r"\n\s*\{\n|\) (?:-> [^\n{]+ )?\{\n").search(text, m.start())
             if not inner:
                 continue
             i = text.find("{", inner.start())
-            depth, j = 0, i
-            while j < len(text):
-                depth += {"{": 1, "}": -1}.get(text[j], 0)
-                if depth == 0:
-                    break
-                j += 1
-            found.append((path, text.count("\n", 0, m.start()) + 1, m.group(1), text[m.start():i], text[i:j + 1]))
+            line = text.count("\n", 0, m.start()) + 1
+            found.append((path, line, m.group(1), text[m.start():i], text[i:block_end(text, i) + 1]))
     return found
 
 
@@ -78,24 +82,18 @@ def twins():
 
 
 def loops():
-    """A loop whose body moves a counter by a constant or by hand."""
+    """Every loop that is no `for`."""
     return grep(r"^\s*(while\b|loop\b|let \w+ = loop\b)")
 
 
 def counted():
-    """The loops of these that add 1 to, or take 1 from, what the condition compares."""
+    """Those of them that add 1 to, or take 1 from, what the condition compares."""
     found = []
     for path, line, name, head, body in functions():
         for m in re.finditer(r"while ([^\n{]+)\{", body):
             names = set(re.findall(r"[a-z_]\w*", m.group(1)))
             i = m.end() - 1
-            depth, j = 0, i
-            while j < len(body):
-                depth += {"{": 1, "}": -1}.get(body[j], 0)
-                if depth == 0:
-                    break
-                j += 1
-            moved = set(re.findall(r"\b([a-z_]\w*) [+-]= 1;", body[i:j]))
+            moved = set(re.findall(r"\b([a-z_]\w*) [+-]= 1;", body[i:block_end(body, i)]))
             if names & moved:
                 found.append(f"{path}: {name}: while {m.group(1).strip()}")
     return found
