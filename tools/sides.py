@@ -20,15 +20,22 @@ def files(commit, pattern):
 
 
 def declarations(text):
-    """The top-level declarations of an antt file by name."""
-    found, name, lines = {}, None, []
+    """The declarations of an antt file by name, also those in its modules without a name; local ones are left out."""
+    found, name, lines, modules = {}, None, [], []
     for line in text.split("\n") + ["--"]:
+        indent = len(line) - len(line.lstrip(" "))
+        while line.strip() and modules and indent <= modules[-1]:
+            modules.pop()
+        level = modules[-1] + 2 if modules else 0
+        line = line[level:] if indent >= level else line
         head = re.match(r"(?:(?:abbrev|unfoldable|pub) )*(?:record |data )?(\S+)(?: \(.*?\))* :(?: |$)", line)
         head = head or re.match(r"(?:pub )?(?:record|data) (\S+)", line)
-        if line.startswith(("--", "use ", "pub use ")) or head:
+        module = re.match(r"module _", line)
+        if line.startswith(("--", "use ", "pub use ")) or head or module:
             if name:
                 found.setdefault(name, "\n".join(lines).rstrip())
             name, lines = (head.group(1), [line]) if head else (None, [])
+            modules += [level] if module else []
         elif name:
             lines.append(line)
     return found

@@ -1,8 +1,8 @@
 -- An option's place in the list.
 use mathlib.Core.Path.{◌≡◌, refl, sym, ap, ◌∙◌}
-use mathlib.Core.Bool.{Bool, true, false}
-use mathlib.Core.List.{List, map}
-use Prim.Native.Nat.{ℕ, ◌+◌, ◌≤◌, ◌<◌}
+use mathlib.Core.Bool.{Bool, true, false, cond}
+use mathlib.Core.List.{List, [], ◌∷◌, map}
+use Prim.Native.Nat.{ℕ, suc, ◌+◌, ◌≤◌, ◌<◌}
 use native.Mathlib.Omega.{arith}
 use denote.Enum.Declared.{tag_of}
 use denote.Enum.Bare.{sameb}
@@ -17,7 +17,8 @@ use Rattle.std.proofs.lemmas.List.FromFn.{length-range_with_len, get_or-range_wi
 use Rattle.arguments.specs.contracts.options.CommandOption.{the_type}
 use Rattle.arguments.specs.declared.options.CommandOption.{CommandOption}
 use Rattle.arguments.specs.declared.options.CommandOption.TheVariants.{TopDown, MinimalPalette, NoRle, NoEmbedIcc, MoreFollows, SamplePalette, Help, ShortHelp, Version, EndOfOptions, Format, Width, Height, Stride, RenderingIntent, Bitfields, Calibrated, Limit, Pels, Plane, Csv, Palette, Icc, LinkedIcc, Out, Read, Edges, Lows, Highs}
-use Rattle.arguments.specs.Options.{all_options, place_of, stands_alone}
+use Rattle.arguments.specs.Options.{all_options, place_of, option_names, option_named, stands_alone}
+use Rattle.arguments.specs.Words.{up_to, alike, place_among}
 
 -- the place of an option of some that stand in a row
 pub in_row : (from count : ℕ) (os : List CommandOption) → map place_of os ≡ range_with_len from count → (n : ℕ) (o : CommandOption) → slice_get os n ≡ Some o → (place_of o ≡ from + n) × (n < count)
@@ -122,6 +123,20 @@ past_all n e = go (ltb n 29) refl
     go : (b : Bool) → ltb n 29 ≡ b → 29 ≤ n
     go true q = absurd (none-some (get_or all_options n TopDown) (sym e ∙ slice_get-get_or all_options n TopDown (ltb-true n 29 q)))
     go false q = ltb-false n 29 q
+
+place_within : (name : List ℕ) (ps : List (List ℕ)) → place_among ps name ≤ length ps
+unfolding place_among
+place_within name [] = omega arith
+place_within name (p ∷ ps) = go (alike p name) (place_within name ps)
+  where
+    go : (b : Bool) → place_among ps name ≤ length ps → cond b 0 (suc (place_among ps name)) ≤ suc (length ps)
+    go true h = omega arith
+    go false h = omega arith
+
+-- the place of a word that names no option is the one past them all
+pub none_named : (w : List ℕ) → slice_get all_options (option_named w) ≡ None → 29 ≡ option_named w
+unfolding option_named option_names
+none_named w e = omega (arith, place_within (up_to 61 w) option_names, past_all (option_named w) e)
 
 unknown : (n : ℕ) → slice_get all_options n ≡ None → stands_alone n ≡ false
 unfolding stands_alone

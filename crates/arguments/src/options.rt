@@ -169,14 +169,24 @@ fn after_option(words: &[u8], at: usize) -> usize
 
 // ---- one option
 
+// The place among the options of the one that a word names; 29, past them all, for any other word.
+fn place_named(word: &[u8]) -> usize
+    ensures { result ≡ option_named word.now }
+{
+    match option_named(word) {
+        Some(option) => option as usize,
+        None => OPTIONS.len(),
+    }
+}
+
 // Where an option is given last. From one option to the next it is one word or two: no iterator of the library goes so.
-fn last_given(words: &[u8], option: CommandOption) -> Option<usize>
-    ensures { MatchOption result (last_given (place_of option) (words_of words.now) ≡ []) (λ at. (at < length words.now) × (words_of (drop at words.now) ≡ last_given (place_of option) (words_of words.now))) }
+fn last_given(words: &[u8], option: usize) -> Option<usize>
+    ensures { MatchOption result (last_given option (words_of words.now) ≡ []) (λ at. (at < length words.now) × (words_of (drop at words.now) ≡ last_given option (words_of words.now))) }
 {
     let mut last = None;
     let mut at = 0;
     while at < words.len() {
-        if option_named(word(words, at)) == Some(option) {
+        if place_named(word(words, at)) == option {
             last = Some(at);
         }
         at = after_option(words, at);
@@ -184,8 +194,9 @@ fn last_given(words: &[u8], option: CommandOption) -> Option<usize>
     last
 }
 
-pub fn is_given(words: &[u8], option: CommandOption) -> bool
-    ensures { result ≡ is_given (place_of option) (words_of words.now) }
+// Whether the option of a place is given; of 29, whether a word that names none stands in an option's place.
+pub fn is_given(words: &[u8], option: usize) -> bool
+    ensures { result ≡ is_given option (words_of words.now) }
 {
     last_given(words, option).is_some()
 }
@@ -214,13 +225,28 @@ pub fn value_at<'a>(words: &'a [u8], at: usize) -> &'a [u8]
     word(words, next)
 }
 
-// An option's value; empty where it is not given.
-pub fn value_of<'a>(words: &'a [u8], option: CommandOption) -> &'a [u8]
-    ensures { result.now ≡ value_of (place_of option) (words_of words.now) }
+// The value of the option of a place; empty where it is not given.
+pub fn value_of<'a>(words: &'a [u8], option: usize) -> &'a [u8]
+    ensures { result.now ≡ value_of option (words_of words.now) }
 {
     match last_given(words, option) {
         Some(at) => value_at(words, at),
         None => b"",
+    }
+}
+
+impl CommandOption {
+    pub fn is_given(self, words: &[u8]) -> bool
+        ensures { result ≡ is_given (place_of self) (words_of words.now) }
+    {
+        is_given(words, self as usize)
+    }
+
+    // Its value; empty where it is not given.
+    pub fn value_of<'a>(self, words: &'a [u8]) -> &'a [u8]
+        ensures { result.now ≡ value_of (place_of self) (words_of words.now) }
+    {
+        value_of(words, self as usize)
     }
 }
 
@@ -327,8 +353,8 @@ fn row_bytes(width: u32, format: BmpPixelFormat) -> usize
 fn number_asked(words: &[u8], option: CommandOption, usual: u64) -> u64
     ensures { result ≡ number_asked (place_of option) usual (words_of words.now) }
 {
-    if is_given(words, option) {
-        return number(value_of(words, option)).unwrap_or(NO_NUMBER);
+    if option.is_given(words) {
+        return number(option.value_of(words)).unwrap_or(NO_NUMBER);
     }
     usual
 }
@@ -348,29 +374,29 @@ fn stride(words: &[u8], width: u32, format: BmpPixelFormat) -> usize
 pub fn format_asked(words: &[u8]) -> BmpPixelFormat
     ensures { result ≡ format_asked (words_of words.now) }
 {
-    format_called(value_of(words, CommandOption::Format)).unwrap_or(BmpPixelFormat::Pal8)
+    format_called(CommandOption::Format.value_of(words)).unwrap_or(BmpPixelFormat::Pal8)
 }
 
 // A palette from a file, or the sample's.
 pub fn has_palette(words: &[u8]) -> bool
     ensures { result ≡ has_palette_of (words_of words.now) }
 {
-    is_given(words, CommandOption::Palette) || is_given(words, CommandOption::SamplePalette)
+    CommandOption::Palette.is_given(words) || CommandOption::SamplePalette.is_given(words)
 }
 
 pub fn source_asked(words: &[u8]) -> EncodeSource
     ensures { result ≡ source_asked (words_of words.now) }
 {
     let format = format_asked(words);
-    let width = number32(value_of(words, CommandOption::Width)).unwrap_or(0);
+    let width = number32(CommandOption::Width.value_of(words)).unwrap_or(0);
     EncodeSource {
         format,
         width,
-        height: number32(value_of(words, CommandOption::Height)).unwrap_or(0),
+        height: number32(CommandOption::Height.value_of(words)).unwrap_or(0),
         stride: stride(words, width, format),
         has_palette: has_palette(words),
-        has_icc: is_given(words, CommandOption::Icc),
-        has_linked_icc: is_given(words, CommandOption::LinkedIcc),
+        has_icc: CommandOption::Icc.is_given(words),
+        has_linked_icc: CommandOption::LinkedIcc.is_given(words),
     }
 }
 
@@ -425,8 +451,8 @@ fn calibrated_asked(list: &[u8]) -> CalibratedRgb
 fn intent(words: &[u8]) -> u32
     ensures { result ≡ intent_asked (words_of words.now) }
 {
-    if is_given(words, CommandOption::RenderingIntent) {
-        return number32(value_of(words, CommandOption::RenderingIntent)).unwrap_or(0);
+    if CommandOption::RenderingIntent.is_given(words) {
+        return number32(CommandOption::RenderingIntent.value_of(words)).unwrap_or(0);
     }
     LCS_GM_IMAGES
 }
@@ -435,8 +461,8 @@ fn intent(words: &[u8]) -> u32
 fn pels(words: &[u8], k: usize) -> i32
     ensures { result ≡ pels_asked k (words_of words.now) }
 {
-    if is_given(words, CommandOption::Pels) {
-        return endpoint(value_of(words, CommandOption::Pels), k);
+    if CommandOption::Pels.is_given(words) {
+        return endpoint(CommandOption::Pels.value_of(words), k);
     }
     PELS_PER_METER
 }
@@ -444,16 +470,20 @@ fn pels(words: &[u8], k: usize) -> i32
 pub fn options_asked(words: &[u8]) -> EncodeOptions
     ensures { result ≡ options_asked (words_of words.now) }
 {
-    let bitfields = masks_asked(value_of(words, CommandOption::Bitfields));
-    let calibrated_rgb = calibrated_asked(value_of(words, CommandOption::Calibrated));
+    let bitfields = masks_asked(CommandOption::Bitfields.value_of(words));
+    let calibrated_rgb = calibrated_asked(CommandOption::Calibrated.value_of(words));
     EncodeOptions {
-        top_down: is_given(words, CommandOption::TopDown),
-        minimal_palette: is_given(words, CommandOption::MinimalPalette),
-        rle: !is_given(words, CommandOption::NoRle),
-        bitfields: is_given(words, CommandOption::Bitfields).then_some(bitfields),
-        embed_icc: !is_given(words, CommandOption::NoEmbedIcc),
+        top_down: CommandOption::TopDown.is_given(words),
+        minimal_palette: CommandOption::MinimalPalette.is_given(words),
+        rle: !CommandOption::NoRle.is_given(words),
+        bitfields: CommandOption::Bitfields
+            .is_given(words)
+            .then_some(bitfields),
+        embed_icc: !CommandOption::NoEmbedIcc.is_given(words),
         rendering_intent: intent(words),
-        calibrated_rgb: is_given(words, CommandOption::Calibrated).then_some(calibrated_rgb),
+        calibrated_rgb: CommandOption::Calibrated
+            .is_given(words)
+            .then_some(calibrated_rgb),
         limit: number_asked(words, CommandOption::Limit, MAX_FILE),
         x_pels_per_meter: pels(words, 0),
         y_pels_per_meter: pels(words, 1),

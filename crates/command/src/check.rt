@@ -9,8 +9,7 @@ ghost use Rattle.command.specs.Runs.{Checked, told_answer};
 
 use crate::CommandAnswer;
 use arguments::options::{
-    CommandOption, Fault, fault_at, first_fault, format_asked, is_given, name_at, value_at,
-    value_of,
+    CommandOption, Fault, fault_at, first_fault, format_asked, name_at, value_at,
 };
 use messages::message::{Piece, tell, tell_line};
 
@@ -57,22 +56,22 @@ const FILES: [CommandOption; 10] = [
 fn any_given(words: &[u8], options: &[CommandOption]) -> bool
     ensures { result ≡ list_any (λ o. is_given (place_of o) (words_of words.now)) options.now }
 {
-    options.iter().any(|option| is_given(words, *option))
+    options.iter().any(|option| option.is_given(words))
 }
 
 // Whether all of some options are given.
 fn all_given(words: &[u8], options: &[CommandOption]) -> bool
     ensures { result ≡ list_all (λ o. is_given (place_of o) (words_of words.now)) options.now }
 {
-    options.iter().all(|option| is_given(words, *option))
+    options.iter().all(|option| option.is_given(words))
 }
 
 // What is wrong with a command that writes: first what the cells come from.
 fn cells_fault(words: &[u8]) -> Option<JointFault>
     ensures { result ≡ cells_fault (words_of words.now) }
 {
-    let plane = is_given(words, CommandOption::Plane);
-    let csv = is_given(words, CommandOption::Csv);
+    let plane = CommandOption::Plane.is_given(words);
+    let csv = CommandOption::Csv.is_given(words);
     let prices = any_given(words, &PRICES);
     (!(plane | csv | prices))
         .then_some(JointFault::NoCells)
@@ -85,14 +84,14 @@ fn cells_fault(words: &[u8]) -> Option<JointFault>
 fn write_fault(words: &[u8]) -> Option<JointFault>
     ensures { result ≡ write_fault (words_of words.now) }
 {
-    let csv = is_given(words, CommandOption::Csv);
+    let csv = CommandOption::Csv.is_given(words);
     let prices = any_given(words, &PRICES);
-    let raw = is_given(words, CommandOption::Plane) | prices;
-    let width = is_given(words, CommandOption::Width);
-    let height = is_given(words, CommandOption::Height);
-    let size = width | height | is_given(words, CommandOption::Stride);
-    let two_palettes = is_given(words, CommandOption::Palette)
-        & is_given(words, CommandOption::SamplePalette);
+    let raw = CommandOption::Plane.is_given(words) | prices;
+    let width = CommandOption::Width.is_given(words);
+    let height = CommandOption::Height.is_given(words);
+    let size = width | height | CommandOption::Stride.is_given(words);
+    let two_palettes = CommandOption::Palette.is_given(words)
+        & CommandOption::SamplePalette.is_given(words);
     let format = format_asked(words);
     let indexed = format.is_indexed();
     let depth = format.bits_per_pixel();
@@ -103,7 +102,7 @@ fn write_fault(words: &[u8]) -> Option<JointFault>
         .or((csv & !indexed).then_some(JointFault::CsvNotIndexed))
         .or((prices & (depth != 8)).then_some(JointFault::PricesNotPal8))
         .or(two_palettes.then_some(JointFault::TwoPalettes))
-        .or((!is_given(words, CommandOption::Out)).then_some(JointFault::NoOut))
+        .or((!CommandOption::Out.is_given(words)).then_some(JointFault::NoOut))
 }
 
 // Whether a word says how to write: all options do but --csv, --read, help and the version.
@@ -146,7 +145,7 @@ fn asks_writing(words: &[u8]) -> bool
 fn read_fault(words: &[u8]) -> Option<JointFault>
     ensures { result ≡ read_fault (words_of words.now) }
 {
-    let csv = is_given(words, CommandOption::Csv);
+    let csv = CommandOption::Csv.is_given(words);
     asks_writing(words)
         .then_some(JointFault::ReadAndWrite)
         .or((!csv).then_some(JointFault::NoCsv))
@@ -155,7 +154,7 @@ fn read_fault(words: &[u8]) -> Option<JointFault>
 fn joint_fault(words: &[u8]) -> Option<JointFault>
     ensures { result ≡ joint_fault (words_of words.now) }
 {
-    if is_given(words, CommandOption::Read) {
+    if CommandOption::Read.is_given(words) {
         read_fault(words)
     } else {
         write_fault(words)
@@ -306,10 +305,10 @@ pub fn check(words: &[u8], text: &mut [u8]) -> CommandAnswer
     if let Some(at) = first_fault(words) {
         return told(2, tell_fault(words, at, text));
     }
-    if is_given(words, CommandOption::Help) | is_given(words, CommandOption::ShortHelp) {
+    if CommandOption::Help.is_given(words) | CommandOption::ShortHelp.is_given(words) {
         return told(0, tell_help(text));
     }
-    if is_given(words, CommandOption::Version) {
+    if CommandOption::Version.is_given(words) {
         return told(0, tell_version(text));
     }
     if let Some(fault) = joint_fault(words) {
@@ -322,8 +321,8 @@ pub fn check(words: &[u8], text: &mut [u8]) -> CommandAnswer
 fn is_skipped(words: &[u8], file: u32) -> bool
     ensures { result ≡ is_skipped file (words_of words.now) }
 {
-    let unwritten = is_given(words, CommandOption::NoEmbedIcc)
-        | is_given(words, CommandOption::LinkedIcc);
+    let unwritten = CommandOption::NoEmbedIcc.is_given(words)
+        | CommandOption::LinkedIcc.is_given(words);
     unwritten & (file == 3)
 }
 
@@ -331,11 +330,11 @@ fn is_skipped(words: &[u8], file: u32) -> bool
 pub fn file_name<'a>(words: &'a [u8], file: u32) -> &'a [u8]
     ensures { result.now ≡ file_named file (words_of words.now) }
 {
+    let Some(option) = FILES.get(file as usize) else {
+        return b"";
+    };
     if is_skipped(words, file) {
         return b"";
     }
-    match FILES.get(file as usize) {
-        Some(option) => value_of(words, *option),
-        None => b"",
-    }
+    option.value_of(words)
 }

@@ -7,7 +7,7 @@ ghost use Rattle.command.specs.QuoteRuns.{counts_text, Quoted, QuoteRan};
 use crate::CommandAnswer;
 use crate::check::{check, told};
 use crate::reading::refused;
-use arguments::options::{CommandOption, value_of};
+use arguments::options::CommandOption;
 use grids::scale::shade_quotes;
 use messages::message::{Piece, tell, tell_line};
 
@@ -19,9 +19,9 @@ fn tell_counts(words: &[u8], lows: usize, highs: usize, text: &mut [u8]) -> usiz
         text,
         b"@: # prices, and % has &\n",
         &[
-            Piece::Text(value_of(words, CommandOption::Highs)),
+            Piece::Text(CommandOption::Highs.value_of(words)),
             Piece::Number(highs as u64),
-            Piece::Text(value_of(words, CommandOption::Lows)),
+            Piece::Text(CommandOption::Lows.value_of(words)),
             Piece::Number(lows as u64),
         ],
     )

@@ -12,9 +12,7 @@ use crate::CommandAnswer;
 use crate::check::{check, told};
 use crate::sample::sample_palette;
 use arguments::formats::written_name;
-use arguments::options::{
-    CommandOption, format_asked, has_palette, is_given, options_asked, source_asked, value_of,
-};
+use arguments::options::{CommandOption, format_asked, has_palette, options_asked, source_asked};
 use arguments::words::item;
 use leaves::checks::below_product;
 use leaves::encoder::{EncodeSource, EncodedBmpFormat, written_names};
@@ -193,7 +191,7 @@ fn answer(
     match encoded {
         Ok(file) => {
             let n = tell_written(
-                value_of(words, CommandOption::Out),
+                CommandOption::Out.value_of(words),
                 file.format,
                 head_of(out, file.bytes),
                 text,
@@ -238,7 +236,7 @@ fn encode<'a>(
         bound,
         source,
         plane.len(),
-        is_given(words, CommandOption::MoreFollows),
+        CommandOption::MoreFollows.is_given(words),
     ) {
         return told(
             2,
@@ -286,8 +284,8 @@ fn sheet_source(words: &[u8], width: usize, height: usize) -> EncodeSource
         height: at_most_32_bits(height),
         stride: width,
         has_palette: has_palette(words),
-        has_icc: is_given(words, CommandOption::Icc),
-        has_linked_icc: is_given(words, CommandOption::LinkedIcc),
+        has_icc: CommandOption::Icc.is_given(words),
+        has_linked_icc: CommandOption::LinkedIcc.is_given(words),
     }
 }
 
@@ -330,7 +328,7 @@ fn run_sheet<'a>(
             told(
                 2,
                 tell_cell(
-                    value_of(words, CommandOption::Csv),
+                    CommandOption::Csv.value_of(words),
                     row,
                     column,
                     cell,
@@ -342,7 +340,7 @@ fn run_sheet<'a>(
         Err(SheetError::Ragged { row, count, width }) => {
             told(
                 2,
-                tell_ragged(value_of(words, CommandOption::Csv), row, count, width, text),
+                tell_ragged(CommandOption::Csv.value_of(words), row, count, width, text),
             )
         }
         Err(SheetError::NoRoom) => told(
@@ -366,7 +364,7 @@ fn run_with<'a>(
 ) -> CommandAnswer
     ensures { Runs (is_given (numbered "--csv") (words_of words.now)) (words_of words.now) plane.now palette.now icc.now linked_icc.now cells.old out.old out.new text.old text.new result }
 {
-    if is_given(words, CommandOption::Csv) {
+    if CommandOption::Csv.is_given(words) {
         return run_sheet(words, plane, palette, icc, linked_icc, cells, out, text);
     }
     encode(
@@ -397,7 +395,7 @@ pub fn run<'a>(
     if checked.status != 3 {
         return checked;
     }
-    if is_given(words, CommandOption::SamplePalette) {
+    if CommandOption::SamplePalette.is_given(words) {
         let mixed = sample_palette();
         return run_with(words, plane, &mixed, icc, linked_icc, cells, out, text);
     }

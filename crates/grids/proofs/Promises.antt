@@ -11,8 +11,11 @@ use lib.ListN.{length, get_or, drop, get_or-append}
 use Rattle.leaves.specs.Put.{put}
 use Rattle.leaves.proofs.ListLaws.{get_or-tab}
 use Rattle.leaves.proofs.Puts.{after_put}
+use Rattle.std.specs.Prelude.{⊤, Result, Ok, Err}
 use Rattle.grids.specs.declared.scale.Quote.{Quote}
-use Rattle.grids.specs.Scale.{shade_of, index_of, quote_at, indices_of, lists_too_short, not_scale, some_not_quote, quote_rows, later_plane, Shaded}
+use Rattle.grids.specs.declared.scale.ShadeRefusal.{ShadeRefusal}
+use Rattle.grids.specs.declared.scale.ShadeRefusal.TheVariants.{ListsTooShort, NotScale, NotQuote}
+use Rattle.grids.specs.Scale.{number_of, answer_number, shade_of, index_of, quote_at, indices_of, lists_too_short, not_scale, some_not_quote, quote_rows, later_plane, Shaded}
 use Rattle.grids.proofs.Placing.{length_indices}
 use Rattle.grids.proofs.Scales.{few_edges}
 use Rattle.grids.proofs.Shades.{shade_few}
@@ -26,12 +29,31 @@ index_small edges scale quoted = go (eqb (shade_of edges quoted.low) (shade_of e
     go true = omega (arith, shade_few edges quoted.low, few_edges edges scale)
     go false = omega arith
 
+-- the number determines the answer of the call
+by_number_of : ℕ → Result ⊤ ShadeRefusal
+by_number_of n = cond (eqb n 0) (Ok tt) (Err (cond (eqb n 15) ListsTooShort (cond (eqb n 22) NotScale NotQuote)))
+
+by_number : (r : Result ⊤ ShadeRefusal) → by_number_of (answer_number r) ≡ r
+unfolding by_number_of
+by_number (Ok painted) = refl
+by_number (Err ListsTooShort) = refl
+by_number (Err NotScale) = refl
+by_number (Err NotQuote) = refl
+
+pub number_determined : (r s : Result ⊤ ShadeRefusal) → answer_number r ≡ answer_number s → r ≡ s
+number_determined r s e = sym (by_number r) ∙ ap by_number_of e ∙ by_number s
+
 module _ (edges lows highs : List Float) (was : List ℕ) where
   -- two answers of which the promise holds are one, and so are the planes
   pub shaded_determined : (later other : List ℕ) (m n : ℕ) → Shaded edges lows highs was later m → Shaded edges lows highs was other n → (m ≡ n) × (later ≡ other)
   shaded_determined later other m n p q =
       let same : m ≡ n = p.first ∙ sym q.first in
       (same, p.plane ∙ ap (λ (k : ℕ). later_plane k edges lows highs was) same ∙ sym q.plane)
+
+  -- the answer of the call itself, and the plane
+  pub call_determined : (later other : List ℕ) (r s : Result ⊤ ShadeRefusal) → Shaded edges lows highs was later (answer_number r) → Shaded edges lows highs was other (answer_number s)
+      → (r ≡ s) × (later ≡ other)
+  call_determined later other r s p q = let same = shaded_determined later other (answer_number r) (answer_number s) p q in (number_determined r s same.0, same.1)
 
   -- a refusal leaves the plane as it was
   pub refusal_changes_nothing : (later : List ℕ) (n : ℕ) → Shaded edges lows highs was later (suc n) → later ≡ was

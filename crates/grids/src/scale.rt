@@ -1,7 +1,7 @@
 // Document 02, A.6: a grid painted from prices, of which each cell has two, by a scale of rising edges.
 ghost use Rattle.std.specs.Prelude.{◌≡◌, false, not, ◌/◌, ◌≤◌, length};
 ghost use Rattle.leaves.specs.Put.{put};
-ghost use Rattle.grids.specs.Levels.{Levels, Padded, Spread};
+ghost use Rattle.grids.specs.Levels.{Levels, Padded, BlockEnds};
 ghost use Rattle.grids.specs.Scale.{number_of, answer_number, shade_of, index_of, indices_of, not_scale, not_quote, some_not_quote, Shaded};
 
 // Why a grid is not painted.
@@ -62,53 +62,54 @@ fn is_scale(edges: &[f64]) -> bool
 }
 
 // A scale's edges with NaNs behind them.
-fn padded(edges: &[f64]) -> [f64; 256]
-    requires { length edges.now ≤ 256 }
-    ensures { Padded edges.now result }
+fn put_edges(edges: &[f64], all: &mut [f64; 256])
+    requires { length all.old ≡ 256 }
+    ensures { Padded edges.now all.new }
 {
-    let mut all = [f64::NAN; 256];
-    all[..edges.len()].copy_from_slice(edges);
-    all
+    for k in 0..256 {
+        all[k] = if k < edges.len() { edges[k] } else { f64::NAN };
+    }
 }
 
-// A scale for the search: its edges with NaNs behind them in blocks of sixteen, and the last of each block.
-#[derive(Drop)]
-struct Blocks {
-    edges: [f64; 256],
-    ends: [f64; 16],
+// The last edge of each block of sixteen.
+fn put_ends(edges: &[f64; 256], ends: &mut [f64; 16])
+    requires { (length edges.now ≡ 256) × (length ends.old ≡ 16) }
+    ensures { BlockEnds ends.new edges.now }
+{
+    for i in 0..16 {
+        ends[i] = edges[16 * i + 15];
+    }
+}
+
+// A scale for the search: its edges with NaNs behind them in blocks of sixteen, and the last of each block. Both stand
+// where they were made: a struct that holds them is copied by a `memcpy`, which C's caller would have to bring.
+#[derive(Clone, Copy)]
+struct Blocks<'a> {
+    edges: &'a [f64; 256],
+    ends: &'a [f64; 16],
     // How many have no NaN.
     full: usize,
-    ghost levels: { Levels full ends edges },
+    ghost levels: { Levels full ends.now edges.now },
+    ghost all_ends: { length ends.now ≡ 16 },
 }
 
-impl Blocks {
-    fn new(edges: &[f64]) -> Blocks
-        requires { not_scale edges.now ≡ false }
-        ensures { Spread edges.now result.ends result.edges }
-    {
-        let full = edges.len() / 16;
-        let edges = padded(edges);
-        let mut ends = [0.0; 16];
-        for i in 0..16 {
-            ends[i] = edges[16 * i + 15];
-        }
-        Blocks { edges, ends, full }
-    }
-
+impl<'a> Blocks<'a> {
     // How many edges are at or below a price: of the full blocks those that are so to their end, then the edges of the next
     // block. No branch turns on the price, as vector code needs it; a chain of `filter` and `count` has one.
     fn shade(&self, price: f64) -> usize
-        ensures { result ≡ shade_of self.now.edges price }
+        ensures { result ≡ shade_of self.now.edges.now price }
     {
+        let edges = self.edges;
+        let ends = self.ends;
         let mut whole = 0;
-        for end in &self.ends[..self.full] {
+        for end in &ends[..self.full] {
             if *end <= price {
                 whole += 1;
             }
         }
         let base = 16 * whole;
         let mut count = 0;
-        for edge in &self.edges[base..base + 16] {
+        for edge in &edges[base..base + 16] {
             if *edge <= price {
                 count += 1;
             }
@@ -119,10 +120,11 @@ impl Blocks {
     // The shade of both ends, or the hatch. The high has the low's shade unless the next edge is at or below it too.
     fn index(&self, quote: Quote) -> u8
         requires { not_quote quote ≡ false }
-        ensures { result ≡ index_of self.now.edges quote }
+        ensures { result ≡ index_of self.now.edges.now quote }
     {
+        let edges = self.edges;
         let low = self.shade(quote.low);
-        let next = self.edges[low];
+        let next = edges[low];
         if next <= quote.high { HATCH } else { low as u8 }
     }
 }
@@ -147,7 +149,15 @@ fn fill(edges: &[f64], lows: &[f64], highs: &[f64], plane: &mut [u8])
     requires all_quotes { some_not_quote lows.now highs.now (length lows.now) ≡ false }
     ensures { plane.new ≡ put plane.old 0 (indices_of edges.now lows.now highs.now) }
 {
-    let blocks = Blocks::new(edges);
+    let mut all = [0.0; 256];
+    let mut ends = [0.0; 16];
+    put_edges(edges, &mut all);
+    put_ends(&all, &mut ends);
+    let blocks = Blocks {
+        edges: &all,
+        ends: &ends,
+        full: edges.len() / 16,
+    };
     for k in 0..lows.len() {
         plane[k] = blocks.index(Quote {
             low: lows[k],

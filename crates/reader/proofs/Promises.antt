@@ -1,16 +1,78 @@
 -- The promises determine: two answers of which one holds are one, and so are the later buffers.
-use mathlib.Core.Path.{◌≡◌, sym, subst, ◌∙◌}
+use mathlib.Core.Path.{◌≡◌, refl, sym, ap, subst, ◌∙◌}
+use mathlib.Core.Bool.{cond}
 use mathlib.Core.List.{List}
 use Prim.Native.Nat.{ℕ, zero, suc}
+use lib.Dec.{eqb}
 use lib.ListN.{take, drop}
+use Rattle.std.specs.Prelude.{⊤, Result, Ok, Err}
 use Rattle.leaves.specs.Put.{put}
 use Rattle.format.specs.OneRow.{RowReading, shows_row, refuses_row}
 use Rattle.format.specs.Readers as Readers
 use Rattle.format.specs.Readers.{shows, refuses}
 use Rattle.format.specs.Shown.{Cell, Shown}
-use Rattle.reader.specs.Answers.{ReadAnswer, refused_reading, Outcome, Read, ReadInto}
+use Rattle.reader.specs.Answers.{SizesAnswer, sizes_answered, ReadAnswer, refused_reading, answered, Outcome, Read, ReadInto}
 use Rattle.reader.specs.Numbers.{row_numbers, numbers_of}
 use Rattle.reader.specs.OneRow.{RowOutcome, ReadRow}
+use Rattle.reader.specs.Refusals.{number_of, answer_number}
+use Rattle.reader.specs.declared.read.Reading.{Reading}
+use Rattle.reader.specs.declared.read.ReadingSizes.{ReadingSizes}
+use Rattle.reader.specs.declared.refusal.ReadRefusal.{ReadRefusal}
+use Rattle.reader.specs.declared.refusal.ReadRefusal.TheVariants.{NeverWritten, OutsideFile, BufferTooShort, StreamFails}
+
+-- ---- the numbers determine the answer of a call
+
+by_number_of : ℕ → ReadRefusal
+by_number_of n = cond (eqb n 17) NeverWritten (cond (eqb n 18) OutsideFile (cond (eqb n 15) BufferTooShort StreamFails))
+
+reading_by : ReadAnswer → Result Reading ReadRefusal
+reading_by a =
+    cond (eqb a.refusal 0) (Ok (record { width = a.width; height = a.height; depth = a.depth; profile_at = a.profile_at; profile_bytes = a.profile_bytes }))
+    (Err (by_number_of a.refusal))
+
+by_numbers : (r : Result Reading ReadRefusal) → reading_by (answered r) ≡ r
+unfolding reading_by by_number_of
+by_numbers (Ok reading) = refl
+by_numbers (Err NeverWritten) = refl
+by_numbers (Err OutsideFile) = refl
+by_numbers (Err BufferTooShort) = refl
+by_numbers (Err StreamFails) = refl
+
+pub answered_determined : (r s : Result Reading ReadRefusal) → answered r ≡ answered s → r ≡ s
+answered_determined r s e = sym (by_numbers r) ∙ ap reading_by e ∙ by_numbers s
+
+sizes_by : SizesAnswer → Result ReadingSizes ReadRefusal
+sizes_by a =
+    cond (eqb a.refusal 0)
+    (Ok (record { width = a.width; height = a.height; depth = a.depth; head_bytes = a.head_bytes; table_bytes = a.table_bytes; cell_numbers = a.cell_numbers }))
+    (Err (by_number_of a.refusal))
+
+sizes_by_numbers : (r : Result ReadingSizes ReadRefusal) → sizes_by (sizes_answered r) ≡ r
+unfolding sizes_by by_number_of
+sizes_by_numbers (Ok sizes) = refl
+sizes_by_numbers (Err NeverWritten) = refl
+sizes_by_numbers (Err OutsideFile) = refl
+sizes_by_numbers (Err BufferTooShort) = refl
+sizes_by_numbers (Err StreamFails) = refl
+
+pub sizes_determined : (r s : Result ReadingSizes ReadRefusal) → sizes_answered r ≡ sizes_answered s → r ≡ s
+sizes_determined r s e = sym (sizes_by_numbers r) ∙ ap sizes_by e ∙ sizes_by_numbers s
+
+check_by : ℕ → Result ⊤ ReadRefusal
+check_by n = cond (eqb n 0) (Ok tt) (Err (by_number_of n))
+
+check_by_number : (r : Result ⊤ ReadRefusal) → check_by (answer_number r) ≡ r
+unfolding check_by by_number_of
+check_by_number (Ok passed) = refl
+check_by_number (Err NeverWritten) = refl
+check_by_number (Err OutsideFile) = refl
+check_by_number (Err BufferTooShort) = refl
+check_by_number (Err StreamFails) = refl
+
+pub number_determined : (r s : Result ⊤ ReadRefusal) → answer_number r ≡ answer_number s → r ≡ s
+number_determined r s e = sym (check_by_number r) ∙ ap check_by e ∙ check_by_number s
+
+-- ---- a reading
 
 reading : ℕ → ℕ → ℕ → ℕ → ℕ → ℕ → ReadAnswer
 reading refusal width height depth at bytes = record { refusal = refusal; width = width; height = height; depth = depth; profile_at = at; profile_bytes = bytes }
@@ -60,6 +122,12 @@ module _ (file head table cells later_head later_table later_cells other_head ot
       let number : s.refusal ≡ r.refusal = q.number ∙ sym p.number in
       same_outcome r.refusal r s (λ z. r.refusal) number p.outcome (subst (λ (n : ℕ). Outcome n file head table cells other_head other_table other_cells s) number q.outcome)
 
+  -- the answer of the call itself, and the buffers
+  pub call_determined : (r s : Result Reading ReadRefusal) → Read file head table cells later_head later_table later_cells (answered r)
+      → Read file head table cells other_head other_table other_cells (answered s)
+      → (r ≡ s) × Same later_head later_table later_cells other_head other_table other_cells (answered r) (answered s)
+  call_determined r s p q = let same = read_determined (answered r) (answered s) p q in (answered_determined r s same.answers, same)
+
   pub read_into_determined : {number width height depth number' width' height' depth' : ℕ} {profile other : List ℕ}
       → ReadInto file head table cells later_head later_table later_cells number width height depth profile
       → ReadInto file head table cells other_head other_table other_cells number' width' height' depth' other
@@ -91,3 +159,7 @@ module _ (file : List ℕ) (start : ℕ) (cells later_cells other_cells : List �
   row_determined {number} {other} p q =
       let e : other ≡ number = q.first ∙ sym p.first in
       (sym e, same_row number p.outcome (subst (λ (n : ℕ). RowOutcome n file start cells other_cells) e q.outcome))
+
+  pub row_call_determined : (r s : Result ⊤ ReadRefusal) → ReadRow file start cells later_cells (answer_number r) → ReadRow file start cells other_cells (answer_number s)
+      → (r ≡ s) × (later_cells ≡ other_cells)
+  row_call_determined r s p q = let same = row_determined p q in (number_determined r s same.0, same.1)

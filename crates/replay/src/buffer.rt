@@ -13,9 +13,12 @@ pub(crate) fn pattern(seed: u32, i: usize) -> u8 {
     ((seed as usize + i % 251) % 256) as u8
 }
 
+// It begins anew every 251 bytes: by such parts no byte asks for a remainder by 251, and the loop is vector code.
 pub(crate) fn fill(out: &mut [u8], seed: u32) {
-    for (i, byte) in out.iter_mut().enumerate() {
-        *byte = pattern(seed, i);
+    for part in out.chunks_mut(251) {
+        for (k, byte) in part.iter_mut().enumerate() {
+            *byte = ((seed as usize + k) % 256) as u8;
+        }
     }
 }
 
@@ -24,13 +27,17 @@ fn later(seed: u32, offset: usize, file: &[u8], i: usize) -> u8 {
     if i < offset {
         return pattern(seed, i);
     }
-    file.get(i - offset).copied().unwrap_or(pattern(seed, i))
+    match file.get(i - offset) {
+        Some(byte) => *byte,
+        None => pattern(seed, i),
+    }
 }
 
-// How many bytes of the buffer are not what they must be.
+// How many bytes of the buffer are not what they must be. A sum has no branch on each byte, as `filter` and `count` have.
 pub(crate) fn differing(out: &[u8], seed: u32, offset: usize, file: &[u8]) -> usize {
-    out.iter()
-        .enumerate()
-        .filter(|(i, byte)| **byte != later(seed, offset, file, *i))
-        .count()
+    let mut count = 0;
+    for i in 0..out.len() {
+        count += (out[i] != later(seed, offset, file, i)) as usize;
+    }
+    count
 }

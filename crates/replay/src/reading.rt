@@ -1,6 +1,4 @@
 // A written file is read back, and what the reader gives is compared with what was handed in.
-ghost use Rattle.std.specs.Prelude.{◌≡◌, length};
-
 use crate::buffer::{differing, fill, pattern};
 use crate::groups::count;
 use crate::shown::{
@@ -16,17 +14,13 @@ use reader::read::{Reading, read};
 use std::io;
 
 // What the lent numbers are before a reading, and the seed of what the lent bytes are.
-const UNREAD: u32 = 0xA5A5_5A5A;
+pub(crate) const UNREAD: u32 = 0xA5A5_5A5A;
 
 const SEED: u32 = 77;
 
 // Room for the numbers of every picture whose plane fits a record's space: 16-bit words have the most numbers,
-// four for two bytes.
-pub(crate) fn cell_space() -> [u32; 32768]
-    ensures { 32768 ≡ length result }
-{
-    [UNREAD; 32768]
-}
+// four for two bytes. Where they are lent they stand in place: a function that answers them has them copied.
+pub(crate) const ROOM: usize = 32768;
 
 fn number_at(numbers: &[u32], k: usize) -> u32 {
     numbers.get(k).copied().unwrap_or(0)
@@ -95,9 +89,11 @@ pub(crate) fn is_row(
     true
 }
 
-// Whether the numbers from a place on are as they were lent.
+// Whether the numbers from a place on are as they were lent. All are looked at, which is vector code; a loop that may end
+// at each of them is none.
 pub(crate) fn is_unread(cells: &[u32], from: usize) -> bool {
-    cells.iter().skip(from).all(|cell| *cell == UNREAD)
+    let rest = cells.get(from..).unwrap_or(&[]);
+    rest.iter().fold(true, |all, cell| all & (*cell == UNREAD))
 }
 
 // Whether the numbers are those of the plane's cells, row by row from the top, and none behind them changed.
@@ -161,7 +157,7 @@ pub(crate) fn is_read_back<'a>(
     let head: &mut [u8] = &mut head_space;
     let mut table_space = [0u8; 1032];
     let table: &mut [u8] = &mut table_space;
-    let mut cells_space = cell_space();
+    let mut cells_space = [UNREAD; ROOM];
     let cells: &mut [u32] = &mut cells_space;
     fill(head, SEED);
     fill(table, SEED);

@@ -1,8 +1,6 @@
 // A file is written once more beside a list of row starts, and each row is read alone from its start.
-ghost use Rattle.std.specs.Prelude.{◌≡◌, length};
-
 use crate::buffer::{differing, fill, space};
-use crate::reading::{cell_space, is_row, is_unread, numbers_in};
+use crate::reading::{ROOM, UNREAD, is_row, is_unread, numbers_in};
 use arguments::words::part;
 use leaves::encoder::EncodeSource;
 use leaves::error::Refusal;
@@ -16,19 +14,16 @@ const UNSET: u64 = 0xA5A5_5A5A_A5A5_5A5A;
 const SEED: u32 = 91;
 
 // An entry for each row of every picture whose file fits the buffer, and some behind them.
-fn start_space() -> [u64; 16400]
-    ensures { 16400 ≡ length result }
-{
-    [UNSET; 16400]
-}
+const ENTRIES: usize = 16400;
 
 fn start_at(starts: &[u64], s: usize) -> u64 {
     starts.get(s).copied().unwrap_or(0)
 }
 
-// Whether the entries from a place on are as they were lent.
+// Whether the entries from a place on are as they were lent, by the same kind of loop.
 fn is_unset(starts: &[u64], from: usize) -> bool {
-    starts.iter().skip(from).all(|start| *start == UNSET)
+    let rest = starts.get(from..).unwrap_or(&[]);
+    rest.iter().fold(true, |all, start| all & (*start == UNSET))
 }
 
 fn number_of(answer: Result<Encoded, Refusal>) -> u32 {
@@ -46,7 +41,7 @@ fn are_rows(
     file: &[u8],
     starts: &[u64],
 ) -> bool {
-    let mut cells_space = cell_space();
+    let mut cells_space = [UNREAD; ROOM];
     let cells: &mut [u32] = &mut cells_space;
     let height = src.height as usize;
     let stride = src.stride;
@@ -76,7 +71,7 @@ pub(crate) fn is_read_by_rows<'a>(
 ) -> bool {
     let mut out_space = space();
     let out: &mut [u8] = &mut out_space;
-    let mut starts_space = start_space();
+    let mut starts_space = [UNSET; ENTRIES];
     let starts: &mut [u64] = &mut starts_space;
     let mut none_space = [0u64; 0];
     let none: &mut [u64] = &mut none_space;

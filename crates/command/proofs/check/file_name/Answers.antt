@@ -41,11 +41,11 @@ returns-then-is_skipped c =
     let a = c.args in
     skipped a.file (words_of a.words.now) (sym c.is_skipped.ensures ∙ c.if-is_skipped.true)
 
-pub returns-in-Some : goal.returns-in-Some
-returns-in-Some c =
+pub returns : goal.returns
+returns c =
     let a = c.args in
     let row = in_row 19 10 files refl a.file c.in-Some.option.now (got_is files a.file c.in-Some.option c.in-Some.ensures.lookup) in
     c.value_of.ensures ∙ named a.file (words_of a.words.now) row.1 (sym c.is_skipped.ensures ∙ c.if-is_skipped.false) _ row.0
 
-pub returns-in-None : goal.returns-in-None
-returns-in-None c = no_file c.args.file (words_of c.args.words.now) c.in-None.ensures.lookup.3
+pub returns-in_default : goal.returns-in_default
+returns-in_default c = no_file c.args.file (words_of c.args.words.now) c.in_default.ensures.lookup.3
