@@ -25,52 +25,47 @@ use Rattle.reader.specs.declared.refusal.ReadRefusal.TheVariants.{NeverWritten, 
 by_number_of : ℕ → ReadRefusal
 by_number_of n = cond (eqb n 17) NeverWritten (cond (eqb n 18) OutsideFile (cond (eqb n 15) BufferTooShort StreamFails))
 
+-- an answer by its number, which is 0 where nothing is refused
+answer_by : {A : Type 0} → ℕ → A → Result A ReadRefusal
+answer_by n value = cond (eqb n 0) (Ok value) (Err (by_number_of n))
+
+refusal_by : {A : Type 0} (why : ReadRefusal) (value : A) → answer_by (number_of why) value ≡ Err why
+unfolding answer_by by_number_of
+refusal_by NeverWritten value = refl
+refusal_by OutsideFile value = refl
+refusal_by BufferTooShort value = refl
+refusal_by StreamFails value = refl
+
 reading_by : ReadAnswer → Result Reading ReadRefusal
-reading_by a =
-    cond (eqb a.refusal 0) (Ok (record { width = a.width; height = a.height; depth = a.depth; profile_at = a.profile_at; profile_bytes = a.profile_bytes }))
-    (Err (by_number_of a.refusal))
+reading_by a = answer_by a.refusal (record { width = a.width; height = a.height; depth = a.depth; profile_at = a.profile_at; profile_bytes = a.profile_bytes })
 
 by_numbers : (r : Result Reading ReadRefusal) → reading_by (answered r) ≡ r
-unfolding reading_by by_number_of
+unfolding reading_by answer_by
 by_numbers (Ok reading) = refl
-by_numbers (Err NeverWritten) = refl
-by_numbers (Err OutsideFile) = refl
-by_numbers (Err BufferTooShort) = refl
-by_numbers (Err StreamFails) = refl
+by_numbers (Err why) = refusal_by why _
 
 pub answered_determined : (r s : Result Reading ReadRefusal) → answered r ≡ answered s → r ≡ s
 answered_determined r s e = sym (by_numbers r) ∙ ap reading_by e ∙ by_numbers s
 
 sizes_by : SizesAnswer → Result ReadingSizes ReadRefusal
 sizes_by a =
-    cond (eqb a.refusal 0)
-    (Ok (record { width = a.width; height = a.height; depth = a.depth; head_bytes = a.head_bytes; table_bytes = a.table_bytes; cell_numbers = a.cell_numbers }))
-    (Err (by_number_of a.refusal))
+    answer_by a.refusal (record { width = a.width; height = a.height; depth = a.depth; head_bytes = a.head_bytes; table_bytes = a.table_bytes; cell_numbers = a.cell_numbers })
 
 sizes_by_numbers : (r : Result ReadingSizes ReadRefusal) → sizes_by (sizes_answered r) ≡ r
-unfolding sizes_by by_number_of
+unfolding sizes_by answer_by
 sizes_by_numbers (Ok sizes) = refl
-sizes_by_numbers (Err NeverWritten) = refl
-sizes_by_numbers (Err OutsideFile) = refl
-sizes_by_numbers (Err BufferTooShort) = refl
-sizes_by_numbers (Err StreamFails) = refl
+sizes_by_numbers (Err why) = refusal_by why _
 
 pub sizes_determined : (r s : Result ReadingSizes ReadRefusal) → sizes_answered r ≡ sizes_answered s → r ≡ s
 sizes_determined r s e = sym (sizes_by_numbers r) ∙ ap sizes_by e ∙ sizes_by_numbers s
 
-check_by : ℕ → Result ⊤ ReadRefusal
-check_by n = cond (eqb n 0) (Ok tt) (Err (by_number_of n))
-
-check_by_number : (r : Result ⊤ ReadRefusal) → check_by (answer_number r) ≡ r
-unfolding check_by by_number_of
-check_by_number (Ok passed) = refl
-check_by_number (Err NeverWritten) = refl
-check_by_number (Err OutsideFile) = refl
-check_by_number (Err BufferTooShort) = refl
-check_by_number (Err StreamFails) = refl
+by_number : (r : Result ⊤ ReadRefusal) → answer_by (answer_number r) tt ≡ r
+unfolding answer_by
+by_number (Ok passed) = refl
+by_number (Err why) = refusal_by why tt
 
 pub number_determined : (r s : Result ⊤ ReadRefusal) → answer_number r ≡ answer_number s → r ≡ s
-number_determined r s e = sym (check_by_number r) ∙ ap check_by e ∙ check_by_number s
+number_determined r s e = sym (by_number r) ∙ ap (λ (n : ℕ). answer_by n tt) e ∙ by_number s
 
 -- ---- a reading
 
